@@ -1,0 +1,33 @@
+//! Names, lines, lists, and the outside: texts, sources and sinks of bytes.
+#![tactic(auto)]
+
+mod boxed;
+mod copy;
+mod list;
+mod names;
+mod outside;
+
+pub use boxed::Boxed;
+pub use copy::NoteCopy;
+pub use list::List;
+pub use names::Names;
+pub use outside::{Failed, LoadFault, Sink, Source, TEXT_LIMIT, Texts};
+use std::alloc::AllocError;
+
+/// The number of a line of a text, counted from 1.
+#[derive(Clone, Copy, Debug, PartialEq, Eq, PartialOrd, Ord)]
+pub struct Line(pub u32);
+
+/// The number of a name in a set of names, counted from 0.
+#[derive(Clone, Copy, Debug, PartialEq, Eq, PartialOrd, Ord)]
+pub struct Name(pub u32);
+
+/// A block of memory was refused.
+#[derive(Clone, Copy, Debug, PartialEq, Eq)]
+pub struct NoMemory;
+
+impl From<AllocError> for NoMemory {
+    fn from(_error: AllocError) -> NoMemory {
+        NoMemory
+    }
+}
