@@ -1,0 +1,7 @@
+//! The meaning of a program as a network of streams (Kahn 1974): definitions, and a plain program
+//! that computes them slowly.
+#![tactic(auto)]
+
+mod plain;
+
+pub use plain::rows;
