@@ -1,0 +1,6 @@
+//! The top call: from the words of a command and the objects of the outside to what is written.
+#![tactic(auto)]
+
+mod form;
+
+
