@@ -1,7 +1,6 @@
 -- Texts, sources and sinks in memory, of which chosen calls fail.
-use Rattle.std.specs.Prelude.{◌≡◌, ℕ, ◌+◌, min, Bool, ◌||◌, List, [], ◌∷◌, ◌++◌, Option, Some, None, length, drop, nat_eq, nat_lt, is_some, if◌then◌else◌}
+use Rattle.std.specs.Prelude.{ℕ, ◌+◌, min, Bool, ◌||◌, List, ◌++◌, length, drop, nat_eq, nat_lt, if◌then◌else◌}
 use Rattle.std.specs.List.{list_any}
-use Rattle.std.specs.Str.{bytes_eq}
 
 -- A count of a u64, one more: it stays at its greatest value.
 abbrev pub more : ℕ → ℕ

@@ -13,7 +13,7 @@ mod write;
 pub use boxed::Boxed;
 pub use copy::NoteCopy;
 pub use list::List;
-pub use memory::MemSource;
+pub use memory::{MemSink, MemSource};
 pub use names::Names;
 pub use outside::{Failed, LoadFault, Sink, Source, TEXT_LIMIT, Texts};
 use std::alloc::AllocError;

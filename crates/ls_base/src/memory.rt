@@ -104,3 +104,77 @@ impl Source for MemSource {
         self.faults
     }
 }
+
+/// A sink in memory of so much room, of which chosen writes fail.
+#[derive(Debug, Drop)]
+pub struct MemSink {
+    bytes: Vec<u8>,
+    room: usize,
+    calls: Calls,
+    faults: u64,
+}
+
+impl Model for MemSink {
+    ghost use Rattle.std.specs.Prelude.{◌≤◌, vec_len, vec_capacity};
+    ghost use Rattle.ls_base.specs.Memory.{SinkState};
+
+    ghost Value = { SinkState };
+
+    ghost view = { λ s. record { written = s.bytes.items; room = s.room; calls = s.calls.next; fails = s.calls.fails.items; faults = s.faults } };
+
+    ghost invariant = { λ s. (vec_len s.bytes ≤ s.room) × (s.room ≤ vec_capacity s.bytes) };
+}
+
+impl MemSink {
+    /// A sink that takes its room now, so that no write takes memory. Write number k, from 0,
+    /// fails where `fails` holds k; numbers past the greatest `u64` count as that one.
+    pub fn new(alloc: Global, room: usize, fails: Vec<u64>) -> Result<MemSink, NoMemory>
+        ensures { IfOk result (λ s. s ≡ record { written = []; room = room; calls = 0; fails = fails.items; faults = 0 }) }
+    {
+        Ok(MemSink {
+            bytes: Vec::with_capacity(alloc, room)?,
+            room,
+            calls: Calls::new(fails),
+            faults: 0,
+        })
+    }
+
+    /// The bytes that it has taken so far.
+    pub fn written(&self) -> &[u8]
+        ensures { result.now ≡ self.now.written }
+    {
+        self.bytes.as_slice()
+    }
+}
+
+impl Sink for MemSink {
+    ghost written = { λ s. Some s.written };
+
+    ghost count = { λ s. s.faults };
+
+    fn write(&mut self, from: &[u8]) -> Result<usize, Failed>
+        ensures within { IfOk result (λ n. n ≤ length from.now) }
+        ensures added { IfOk result (λ n. self.new.written ≡ self.old.written ++ take n from.now) }
+        ensures stuck { IfOk result (λ n. n ≡ 0 → 0 < length from.now → Rose self.old.faults self.new.faults) }
+        ensures failed { OnErr result (Rose self.old.faults self.new.faults) }
+        ensures unwritten { OnErr result (self.new.written ≡ self.old.written) }
+        ensures counted { self.old.faults ≤ self.new.faults }
+        ensures answer { is_ok result ≡ not (write_fails self.old from.now) }
+        ensures whole { IfOk result (λ n. n ≡ length from.now) }
+        ensures state { self.new ≡ after_write self.old from.now }
+    {
+        let fails = self.calls.fails();
+        if fails || from.len() > self.room - self.bytes.len() {
+            self.faults = self.faults.saturating_add(1);
+            return Err(Failed);
+        }
+        match self.bytes.extend_from_slice(from) {
+            Ok(()) => Ok(from.len()),
+            Err(_) => unreachable!(),
+        }
+    }
+
+    fn faults(&self) -> u64 {
+        self.faults
+    }
+}

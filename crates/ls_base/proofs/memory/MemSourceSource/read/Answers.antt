@@ -1,5 +1,4 @@
-use Rattle.std.proofs.Common.{◌≡◌, ◌+◌, ◌-◌, ◌≤◌, length, take, drop, sym, ap, ◌∙◌, arith}
-use Rattle.ls_base.specs.Memory.{SourceState}
+use Rattle.std.proofs.Common.{◌+◌, ◌-◌, ◌≤◌, length, take, drop, sym, ap, ◌∙◌, arith}
 use Rattle.ls_base.proofs.Written.{read_front}
 use Rattle.ls_base.proofs.memory.MemSourceSource.read.Goals as goal
 
