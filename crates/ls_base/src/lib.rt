@@ -8,6 +8,7 @@ mod memory;
 mod names;
 mod outside;
 mod steps;
+mod texts;
 mod write;
 
 pub use boxed::Boxed;
@@ -18,6 +19,7 @@ pub use names::Names;
 pub use outside::{Failed, LoadFault, Sink, Source, TEXT_LIMIT, Texts};
 use std::alloc::AllocError;
 pub use steps::Steps;
+pub use texts::MemTexts;
 pub use write::write_all;
 
 /// The number of a line of a text, counted from 1.
