@@ -4,8 +4,12 @@
 
 mod glyph;
 mod leaf;
+mod leaf_buf;
+mod read;
 mod text;
 
 pub use glyph::Glyph;
 pub use leaf::{Leaf, Shape};
+pub use leaf_buf::{LeafBuf, write_leaf};
+pub use read::{read_char, read_int, read_text};
 pub use text::Text;

@@ -1,0 +1,4 @@
+pub mod Escapes
+pub mod Ints
+pub mod Tokens
+pub mod TextBytes
