@@ -1,2 +1,3 @@
 pub mod Bytes
+pub mod FormViews
 pub mod SumForm

@@ -2,6 +2,7 @@ ghost use Rattle.std.specs.Prelude.{◌≡◌, length};
 ghost use Rattle.std.specs.Option.{option_map};
 ghost use Rattle.lsc_cli.specs.Bytes as bytes_of;
 ghost use Rattle.lsc_cli.specs.SumForm as spec;
+ghost use Rattle.lsc_cli.specs.FormViews.{header_view, equation_view, file_view};
 
 use ls_ast::{RunningSum, Stream};
 use ls_value::read_int;
@@ -89,5 +90,150 @@ fn symbol(symbol: u8, bytes: &[u8]) -> Option<&[u8]>
     match text {
         [byte, rest @ ..] if *byte == symbol => Some(rest),
         _ => None,
+    }
+}
+
+/// A number of 1 to 18 digits, and what follows it.
+#[tactic(auto, unfolding(crate::specs::SumForm::number_at))]
+fn number(bytes: &[u8]) -> Option<(i64, &[u8])>
+    ensures { option_map (λ r. (r.0, r.1.now)) result ≡ spec.number_at bytes.now }
+{
+    let (_, text) = split(Class::Blank, bytes);
+    let (digits, rest) = split(Class::Digit, text);
+    if digits.len() > 18 {
+        return None;
+    }
+    let value = int_of(digits)?;
+    Some((value, rest))
+}
+
+/// The integer that the bytes spell, if they spell one.
+pub fn int_of(bytes: &[u8]) -> Option<i64>
+    ensures { result ≡ bytes_of.int_of bytes.now }
+{
+    read_int(bytes)
+}
+
+/// `let node NAME PARAM = RESULT where rec`
+struct Header<'a> {
+    name: &'a [u8],
+    param: &'a [u8],
+    result: &'a [u8],
+    rest: &'a [u8],
+}
+
+#[tactic(auto, unfolding(crate::specs::SumForm::header_at))]
+fn header(bytes: &[u8]) -> Option<Header<'_>>
+    ensures { option_map header_view result ≡ spec.header_at bytes.now }
+{
+    let rest = keyword(b"let", bytes)?;
+    let rest = keyword(b"node", rest)?;
+    let (node, rest) = name(rest)?;
+    let (param, rest) = name(rest)?;
+    let rest = symbol(b'=', rest)?;
+    let (shown, rest) = name(rest)?;
+    let rest = keyword(b"where", rest)?;
+    let rest = keyword(b"rec", rest)?;
+    Some(Header {
+        name: node,
+        param,
+        result: shown,
+        rest,
+    })
+}
+
+/// `S = X + (K fby Y)`
+struct SumEquation<'a> {
+    sum: &'a [u8],
+    added: &'a [u8],
+    first: i64,
+    delayed: &'a [u8],
+    rest: &'a [u8],
+}
+
+/// `(K fby Y)`
+#[tactic(auto, unfolding(crate::specs::SumForm::delay_at))]
+fn delay(bytes: &[u8]) -> Option<(i64, &[u8], &[u8])>
+    ensures { option_map (λ r. (r.0, r.1.now, r.2.now)) result ≡ spec.delay_at bytes.now }
+{
+    let rest = symbol(b'(', bytes)?;
+    let (first, rest) = number(rest)?;
+    let rest = keyword(b"fby", rest)?;
+    let (delayed, rest) = name(rest)?;
+    let rest = symbol(b')', rest)?;
+    Some((first, delayed, rest))
+}
+
+#[tactic(auto, unfolding(crate::specs::SumForm::equation_at))]
+fn equation(bytes: &[u8]) -> Option<SumEquation<'_>>
+    ensures { option_map equation_view result ≡ spec.equation_at bytes.now }
+{
+    let (sum, rest) = name(bytes)?;
+    let rest = symbol(b'=', rest)?;
+    let (added, rest) = name(rest)?;
+    let rest = symbol(b'+', rest)?;
+    let (first, delayed, rest) = delay(rest)?;
+    Some(SumEquation {
+        sum,
+        added,
+        first,
+        delayed,
+        rest,
+    })
+}
+
+/// Which of the two streams a name means.
+#[tactic(auto, unfolding(crate::specs::SumForm::stream_of))]
+fn stream_of(param: &[u8], sum: &[u8], name: &[u8]) -> Option<Stream>
+    ensures { result ≡ spec.stream_of param.now sum.now name.now }
+{
+    if name == param {
+        Some(Stream::Param)
+    } else if name == sum {
+        Some(Stream::Sum)
+    } else {
+        None
+    }
+}
+
+/// The body where the names are as they are to be.
+#[tactic(auto, unfolding(crate::specs::SumForm::body_of))]
+fn body_of(param: &[u8], result_name: &[u8], equation: &SumEquation<'_>) -> Option<RunningSum>
+    ensures { result ≡ spec.body_of param.now result_name.now (equation_view equation.now) }
+{
+    if equation.sum == param || equation.added != param {
+        return None;
+    }
+    let delayed = stream_of(param, equation.sum, equation.delayed)?;
+    let shown = stream_of(param, equation.sum, result_name)?;
+    Some(RunningSum {
+        first: equation.first,
+        delayed,
+        result: shown,
+    })
+}
+
+/// A file of the one form that is run.
+pub struct SumFile<'a> {
+    pub name: &'a [u8],
+    pub body: RunningSum,
+}
+
+/// The file that the bytes spell, if they are of the form.
+#[tactic(auto, unfolding(crate::specs::SumForm::file_of))]
+pub fn sum_file(bytes: &[u8]) -> Option<SumFile<'_>>
+    ensures { option_map file_view result ≡ spec.file_of bytes.now }
+{
+    let header = header(bytes)?;
+    let equation = equation(header.rest)?;
+    let body = body_of(header.param, header.result, &equation)?;
+    let (_, rest) = split(Class::Blank, equation.rest);
+    if rest.is_empty() {
+        Some(SumFile {
+            name: header.name,
+            body,
+        })
+    } else {
+        None
     }
 }

@@ -3,4 +3,6 @@
 
 mod form;
 
+pub use form::{SumFile, int_of, sum_file};
+
 

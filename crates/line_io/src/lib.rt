@@ -1,0 +1,7 @@
+//! Lines of input and output: a buffer that gives the lines of a source, and the fields of a line
+//! read and written by the form of a node's inputs and outputs.
+#![tactic(auto)]
+
+mod buffer;
+
+pub use buffer::{LineBuf, Next};
