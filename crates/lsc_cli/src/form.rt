@@ -78,7 +78,11 @@ fn name(bytes: &[u8]) -> Option<(&[u8], &[u8])>
     ensures { option_map (λ r. (r.0.now, r.1.now)) result ≡ spec.name_at bytes.now }
 {
     let found = word(bytes)?;
-    if is_keyword(found.0) { None } else { Some(found) }
+    if is_keyword(found.0) {
+        None
+    } else {
+        Some(found)
+    }
 }
 
 /// What follows this symbol.
@@ -103,8 +107,10 @@ fn number(bytes: &[u8]) -> Option<(i64, &[u8])>
     if digits.len() > 18 {
         return None;
     }
-    let value = int_of(digits)?;
-    Some((value, rest))
+    match int_of(digits) {
+        Some(value) => Some((value, rest)),
+        None => None,
+    }
 }
 
 /// The integer that the bytes spell, if they spell one.
@@ -115,6 +121,7 @@ pub fn int_of(bytes: &[u8]) -> Option<i64>
 }
 
 /// `let node NAME PARAM = RESULT where rec`
+#[derive(Drop)]
 struct Header<'a> {
     name: &'a [u8],
     param: &'a [u8],
@@ -123,7 +130,7 @@ struct Header<'a> {
 }
 
 #[tactic(auto, unfolding(crate::specs::SumForm::header_at))]
-fn header(bytes: &[u8]) -> Option<Header<'_>>
+fn read_header(bytes: &[u8]) -> Option<Header<'_>>
     ensures { option_map header_view result ≡ spec.header_at bytes.now }
 {
     let rest = keyword(b"let", bytes)?;
@@ -143,6 +150,7 @@ fn header(bytes: &[u8]) -> Option<Header<'_>>
 }
 
 /// `S = X + (K fby Y)`
+#[derive(Drop)]
 struct SumEquation<'a> {
     sum: &'a [u8],
     added: &'a [u8],
@@ -165,7 +173,7 @@ fn delay(bytes: &[u8]) -> Option<(i64, &[u8], &[u8])>
 }
 
 #[tactic(auto, unfolding(crate::specs::SumForm::equation_at))]
-fn equation(bytes: &[u8]) -> Option<SumEquation<'_>>
+fn read_equation(bytes: &[u8]) -> Option<SumEquation<'_>>
     ensures { option_map equation_view result ≡ spec.equation_at bytes.now }
 {
     let (sum, rest) = name(bytes)?;
@@ -214,6 +222,7 @@ fn body_of(param: &[u8], result_name: &[u8], equation: &SumEquation<'_>) -> Opti
 }
 
 /// A file of the one form that is run.
+#[derive(Drop)]
 pub struct SumFile<'a> {
     pub name: &'a [u8],
     pub body: RunningSum,
@@ -224,16 +233,15 @@ pub struct SumFile<'a> {
 pub fn sum_file(bytes: &[u8]) -> Option<SumFile<'_>>
     ensures { option_map file_view result ≡ spec.file_of bytes.now }
 {
-    let header = header(bytes)?;
-    let equation = equation(header.rest)?;
+    let header = read_header(bytes)?;
+    let equation = read_equation(header.rest)?;
     let body = body_of(header.param, header.result, &equation)?;
     let (_, rest) = split(Class::Blank, equation.rest);
-    if rest.is_empty() {
-        Some(SumFile {
+    match rest {
+        [] => Some(SumFile {
             name: header.name,
             body,
-        })
-    } else {
-        None
+        }),
+        _ => None,
     }
 }

@@ -4,5 +4,3 @@
 mod form;
 
 pub use form::{SumFile, int_of, sum_file};
-
-
