@@ -1,12 +1,12 @@
 //! The real outside: files, standard input and standard output. Nothing is told of the bytes that
-//! they hold.
+//! they hold: contracts see the number of faults so far.
 ghost use Rattle.std.specs.Prelude.{◌≡◌, ◌<◌, ◌≤◌, None, OnOk, vec_len, IsErrOf};
 
 use crate::{Failed, LoadFault, Sink, Source, TEXT_LIMIT, Texts};
-use std::fs;
-use std::io;
 use std::io::{Printer, Read, Write};
+use std::marker::Model;
 use std::rt::Files;
+use std::{fs, io};
 
 /// The files of the system, each under its path. One count of faults is that of every name.
 #[derive(Drop)]
@@ -15,9 +15,17 @@ pub struct FileTexts<'a, R: Files> {
     faults: u64,
 }
 
+impl<'a, R: Files> Model for FileTexts<'a, R> {
+    ghost use Rattle.std.specs.Prelude.{ℕ};
+
+    ghost Value = { ℕ };
+
+    ghost view = { λ t. t.faults };
+}
+
 impl<'a, R: Files> FileTexts<'a, R> {
     pub fn new(rt: &'a R) -> FileTexts<'a, R>
-        ensures { result.faults ≡ 0 }
+        ensures { result ≡ 0 }
     {
         FileTexts { rt, faults: 0 }
     }
@@ -49,7 +57,7 @@ fn read_text<F: Read>(file: &mut F, into: &mut Vec<u8>) -> Result<(), LoadFault>
 impl<R: Files> Texts for FileTexts<'_, R> {
     ghost told = { λ _ _. None };
 
-    ghost count = { λ t _. t.faults };
+    ghost count = { λ t _. t };
 
     fn load(&mut self, name: &str, into: &mut Vec<u8>) -> Result<(), LoadFault> {
         into.clear();
@@ -79,9 +87,17 @@ pub struct InputSource<'a, R: Input> {
     faults: u64,
 }
 
+impl<'a, R: Input> Model for InputSource<'a, R> {
+    ghost use Rattle.std.specs.Prelude.{ℕ};
+
+    ghost Value = { ℕ };
+
+    ghost view = { λ s. s.faults };
+}
+
 impl<'a, R: Input> InputSource<'a, R> {
     pub fn new(rt: &'a R) -> InputSource<'a, R>
-        ensures { result.faults ≡ 0 }
+        ensures { result ≡ 0 }
     {
         InputSource {
             rt,
@@ -94,7 +110,7 @@ impl<'a, R: Input> InputSource<'a, R> {
 impl<R: Input> Source for InputSource<'_, R> {
     ghost left = { λ _. None };
 
-    ghost count = { λ s. s.faults };
+    ghost count = { λ s. s };
 
     fn read(&mut self, into: &mut [u8]) -> Result<usize, Failed> {
         match self.reader.read(into) {
@@ -118,9 +134,17 @@ pub struct OutputSink<'a, R: Print> {
     faults: u64,
 }
 
+impl<'a, R: Print> Model for OutputSink<'a, R> {
+    ghost use Rattle.std.specs.Prelude.{ℕ};
+
+    ghost Value = { ℕ };
+
+    ghost view = { λ s. s.faults };
+}
+
 impl<'a, R: Print> OutputSink<'a, R> {
     pub fn new(rt: &'a R) -> OutputSink<'a, R>
-        ensures { result.faults ≡ 0 }
+        ensures { result ≡ 0 }
     {
         OutputSink {
             out: io::writer(rt),
@@ -132,7 +156,7 @@ impl<'a, R: Print> OutputSink<'a, R> {
 impl<R: Print> Sink for OutputSink<'_, R> {
     ghost written = { λ _. None };
 
-    ghost count = { λ s. s.faults };
+    ghost count = { λ s. s };
 
     fn write(&mut self, from: &[u8]) -> Result<usize, Failed> {
         if let Ok(taken) = self.out.write(from) {
