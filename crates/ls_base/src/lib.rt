@@ -9,6 +9,8 @@ mod names;
 mod outside;
 mod real;
 mod steps;
+#[cfg(test)]
+mod tests;
 mod texts;
 mod write;
 
