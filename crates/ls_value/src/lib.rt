@@ -2,12 +2,14 @@
 //! their one code spelling.
 #![tactic(auto)]
 
+mod code;
 mod glyph;
 mod leaf;
 mod leaf_buf;
 mod read;
 mod text;
 
+pub use code::{BadLeaf, read_leaf};
 pub use glyph::Glyph;
 pub use leaf::{Leaf, Shape};
 pub use leaf_buf::{LeafBuf, write_leaf};
