@@ -7,6 +7,8 @@ mod glyph;
 mod leaf;
 mod leaf_buf;
 mod read;
+#[cfg(test)]
+mod tests;
 mod text;
 
 pub use code::{BadLeaf, read_leaf};
