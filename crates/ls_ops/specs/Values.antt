@@ -3,7 +3,7 @@ use Rattle.std.specs.Prelude.{ℕ, ◌==◌, ℤ, pos, int_lt, int_le, int_rem, 
 use Rattle.std.specs.Char.{is_ascii_digit, is_ascii_alphabetic}
 use Rattle.std.specs.Int.{w64, int_wrapping_add, int_wrapping_sub, int_wrapping_mul, int_wrapping_neg, int_wrapping_div, int_min, int_max, int_signum}
 use Rattle.std.specs.List.{AllZip}
-use Rattle.std.specs.Option.{option_map, option_map_or}
+use Rattle.std.specs.Option.{option_map_or}
 use Rattle.std.specs.Ordering.{int_eq}
 use Rattle.std.specs.Str.{bytes_eq}
 use Rattle.ls_value.specs.Spelling.{Fits}
@@ -86,9 +86,19 @@ abbrev pub two_same : List Leaf → Option Truth
 two_same (a ∷ b ∷ []) = equality a b
 two_same _ = None
 
+-- two leaves of one shape, neither of them Nil
+abbrev pub are_of_one_shape : Leaf → Leaf → Truth
+are_of_one_shape (Int a) (Int b) = true
+are_of_one_shape (Bool a) (Bool b) = true
+are_of_one_shape (Char a) (Char b) = true
+are_of_one_shape (Text a) (Text b) = true
+are_of_one_shape (Enum t a) (Enum u b) = t == u
+are_of_one_shape Nothing Nothing = true
+are_of_one_shape _ _ = false
+
 -- the first of two leaves of one shape where true, and else the second
 abbrev pub choice : List Leaf → Option Leaf
-choice (Bool c ∷ a ∷ b ∷ []) = option_map (λ same. if c then a else b) (equality a b)
+choice (Bool c ∷ a ∷ b ∷ []) = if are_of_one_shape a b then Some (if c then a else b) else None
 choice _ = None
 
 -- ---- values and alarms

@@ -1,7 +1,7 @@
 //! Operands of a kind. Each function answers None where an operand is Nil.
 
 ghost use Rattle.std.specs.Prelude.{◌≡◌};
-ghost use Rattle.ls_ops.specs.Values.{one_int, two_ints, one_bool, two_bools, one_char, two_same, equality, choice};
+ghost use Rattle.ls_ops.specs.Values.{one_int, two_ints, one_bool, two_bools, one_char, two_same, equality, choice, are_of_one_shape as of_one_shape};
 
 use ls_value::Leaf;
 
@@ -65,10 +65,7 @@ pub(crate) fn choice_of(args: &[Leaf]) -> Option<Leaf>
     ensures { result ≡ choice args.now }
 {
     match args {
-        [Leaf::Bool(c), a, b] => {
-            same(a, b)?;
-            Some(if *c { *a } else { *b })
-        }
+        [Leaf::Bool(c), a, b] if are_of_one_shape(a, b) => Some(if *c { *a } else { *b }),
         _ => None,
     }
 }
@@ -84,5 +81,19 @@ fn same(a: &Leaf, b: &Leaf) -> Option<bool>
         (Leaf::Enum(t, a), Leaf::Enum(u, b)) if t == u => Some(a == b),
         (Leaf::Unit, Leaf::Unit) => Some(true),
         _ => None,
+    }
+}
+
+fn are_of_one_shape(a: &Leaf, b: &Leaf) -> bool
+    ensures { result ≡ of_one_shape a.now b.now }
+{
+    match (a, b) {
+        (Leaf::Int(_), Leaf::Int(_))
+        | (Leaf::Bool(_), Leaf::Bool(_))
+        | (Leaf::Char(_), Leaf::Char(_))
+        | (Leaf::Text(_), Leaf::Text(_))
+        | (Leaf::Unit, Leaf::Unit) => true,
+        (Leaf::Enum(t, _), Leaf::Enum(u, _)) => t == u,
+        _ => false,
     }
 }

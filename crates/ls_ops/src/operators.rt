@@ -4,7 +4,10 @@ ghost use Rattle.std.specs.Prelude.{◌≡◌, ◌≢◌, IfSome, IfNone, Some, 
 ghost use Rattle.ls_ops.specs.declared.kinds.Op.{Op};
 ghost use Rattle.ls_ops.specs.Signature.{symbol_of, signature_of, is_prefix};
 ghost use Rattle.ls_ops.specs.Symbols.{entries, all_entries};
-ghost use Rattle.ls_ops.specs.Values.{Takes, value_of, alarm_of};
+ghost use Rattle.ls_ops.specs.Values.{Takes, TakesAt, result_shape, value_of, alarm_of};
+ghost use Rattle.std.specs.List.{Contains};
+ghost use Rattle.ls_value.specs.Spelling.{Fits};
+ghost use Rattle.ls_value.specs.declared.leaf.Shape.{Shape};
 
 use crate::operands::{bool_of, bools_of, char_of, choice_of, int_of, ints_of, same_of};
 use crate::results::{int, is_digit, is_letter, quotient, remainder, truth};
@@ -12,13 +15,35 @@ use crate::symbols::OPERATORS;
 use crate::{Alarm, Op, OpSign, OpTable};
 use ls_value::Leaf;
 
-/// A row for each operator: its symbol, whether it stands before or between its operands, what it
-/// takes, and its value on operands none of which is Nil. `table!(column, ..)` writes what one
-/// column holds at each operator.
-macro_rules! table {
+/// The operators, a row for each: its symbol, whether it stands before or between its operands,
+/// what it takes, and its value on operands none of which is Nil. `operators!(column, ..)` writes
+/// what one column holds.
+macro_rules! operators {
+    (@symbols ($op:expr) $($name:ident $symbol:literal $place:ident $sign:expr, $read:ident $operands:pat => $value:expr;)*) => {
+        match $op { $(Op::$name => $symbol,)* }
+    };
+    (@signs ($op:expr) $($name:ident $symbol:literal $place:ident $sign:expr, $read:ident $operands:pat => $value:expr;)*) => {
+        match $op { $(Op::$name => $sign,)* }
+    };
+    (@prefixes ($op:expr) $($name:ident $symbol:literal $place:ident $sign:expr, $read:ident $operands:pat => $value:expr;)*) => {
+        match $op { $(Op::$name => operators!(@is_before $place),)* }
+    };
+    (@is_before before) => { true };
+    (@is_before between) => { false };
+    (@rows () $($name:ident $symbol:literal $place:ident $sign:expr, $read:ident $operands:pat => $value:expr;)*) => {
+        [$((Op::$name, $symbol),)*]
+    };
+    (@values ($op:expr, $args:expr) $($name:ident $symbol:literal $place:ident $sign:expr, $read:ident $operands:pat => $value:expr;)*) => {
+        match $op {
+            $(Op::$name => match $read($args) {
+                Some($operands) => $value,
+                None => (Leaf::Nil, Alarm::None),
+            },)*
+        }
+    };
     ($column:ident $(, $given:expr)*) => {
-        $column! {
-            ($($given),*)
+        operators! {
+            @$column ($($given),*)
             Add "+" between OpSign::Ints(2), ints_of (a, b) => int(a.wrapping_add(b));
             Sub "-" between OpSign::Ints(2), ints_of (a, b) => int(a.wrapping_sub(b));
             Mul "*" between OpSign::Ints(2), ints_of (a, b) => int(a.wrapping_mul(b));
@@ -47,74 +72,43 @@ macro_rules! table {
     };
 }
 
-macro_rules! symbols {
-    (($op:expr) $($name:ident $symbol:literal $place:ident $sign:expr, $read:ident $operands:pat => $value:expr;)*) => {
-        match $op { $(Op::$name => $symbol,)* }
-    };
-}
-
-macro_rules! signs {
-    (($op:expr) $($name:ident $symbol:literal $place:ident $sign:expr, $read:ident $operands:pat => $value:expr;)*) => {
-        match $op { $(Op::$name => $sign,)* }
-    };
-}
-
-macro_rules! places {
-    (($op:expr) $($name:ident $symbol:literal $place:ident $sign:expr, $read:ident $operands:pat => $value:expr;)*) => {
-        match $op { $(Op::$name => stands_before!($place),)* }
-    };
-}
-
-macro_rules! stands_before {
-    (before) => { true };
-    (between) => { false };
-}
-
-macro_rules! rows {
-    (() $($name:ident $symbol:literal $place:ident $sign:expr, $read:ident $operands:pat => $value:expr;)*) => {
-        [$((Op::$name, $symbol),)*]
-    };
-}
-
-macro_rules! values {
-    (($op:expr, $args:expr) $($name:ident $symbol:literal $place:ident $sign:expr, $read:ident $operands:pat => $value:expr;)*) => {
-        match $op {
-            $(Op::$name => match $read($args) {
-                Some($operands) => $value,
-                None => (Leaf::Nil, Alarm::None),
-            },)*
-        }
-    };
-}
-
 /// The value of an operator on its operands, and its alarm.
 pub fn eval(op: Op, args: &[Leaf]) -> (Leaf, Alarm)
     requires { Takes op args.now }
     ensures value { result.0 ≡ value_of op args.now }
     ensures alarm { result.1 ≡ (if alarm_of op args.now then Alarm.Division else Alarm.None) }
+    ensures nil { Contains args.now Leaf.Nil → (result.0 ≡ Leaf.Nil) × (result.1 ≡ Alarm.None) }
+    ensures shape { (shape : Shape) → TakesAt op shape args.now → Fits result.0 (result_shape (signature_of op) shape) }
 {
-    table!(values, op, args)
+    evaluate(op, args)
+}
+
+fn evaluate(op: Op, args: &[Leaf]) -> (Leaf, Alarm)
+    ensures value { result.0 ≡ value_of op args.now }
+    ensures alarm { result.1 ≡ (if alarm_of op args.now then Alarm.Division else Alarm.None) }
+{
+    operators!(values, op, args)
 }
 
 /// The symbol of an operator, as step code has it.
 pub fn symbol(op: Op) -> &'static str
     ensures { result.now ≡ symbol_of op }
 {
-    table!(symbols, op)
+    operators!(symbols, op)
 }
 
 /// What an operator takes and gives.
 pub fn sign_of(op: Op) -> OpSign
     ensures { result ≡ signature_of op }
 {
-    table!(signs, op)
+    operators!(signs, op)
 }
 
 /// Whether an operator is a word that is written before its operands.
 pub fn prefix(op: Op) -> bool
     ensures { result ≡ is_prefix op }
 {
-    table!(places, op)
+    operators!(prefixes, op)
 }
 
 /// The operator of a symbol.
@@ -129,5 +123,7 @@ pub fn find_op(symbol: &str) -> Option<Op>
 fn all_operators() -> OpTable<OPERATORS>
     ensures { entries result.rows ≡ all_entries }
 {
-    OpTable { rows: table!(rows) }
+    OpTable {
+        rows: operators!(rows),
+    }
 }
