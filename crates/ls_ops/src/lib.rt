@@ -10,3 +10,6 @@ mod symbols;
 pub use kinds::{Alarm, Op, OpSign};
 pub use operators::{eval, find_op, prefix, sign_of, symbol};
 pub use symbols::OpTable;
+
+#[cfg(test)]
+mod tests;

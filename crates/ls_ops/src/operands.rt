@@ -1,6 +1,6 @@
 //! Operands of a kind. Each function answers None where an operand is Nil.
 
-ghost use Rattle.std.specs.Prelude.{◌≡◌};
+ghost use Rattle.std.specs.Prelude.{◌≡◌, ◌↔◌, IfSome, IsTrue};
 ghost use Rattle.ls_ops.specs.Values.{one_int, two_ints, one_bool, two_bools, one_char, two_same, equality, choice, are_of_one_shape as of_one_shape};
 
 use ls_value::Leaf;
@@ -71,7 +71,8 @@ pub(crate) fn choice_of(args: &[Leaf]) -> Option<Leaf>
 }
 
 fn same(a: &Leaf, b: &Leaf) -> Option<bool>
-    ensures { result ≡ equality a.now b.now }
+    ensures value { result ≡ equality a.now b.now }
+    ensures exact { IfSome result (λ same. IsTrue same ↔ (a.now ≡ b.now)) }
 {
     match (a, b) {
         (Leaf::Int(a), Leaf::Int(b)) => Some(a == b),

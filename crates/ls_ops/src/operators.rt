@@ -72,7 +72,8 @@ macro_rules! operators {
     };
 }
 
-/// The value of an operator on its operands, and its alarm.
+/// The value of an operator on its operands, and its alarm. Where an operand is Nil the value is
+/// Nil and there is no alarm, also where `if` does not choose that operand.
 pub fn eval(op: Op, args: &[Leaf]) -> (Leaf, Alarm)
     requires { Takes op args.now }
     ensures value { result.0 ≡ value_of op args.now }
@@ -111,7 +112,7 @@ pub fn prefix(op: Op) -> bool
     operators!(prefixes, op)
 }
 
-/// The operator of a symbol.
+/// The operator of a symbol, None where no operator has it.
 pub fn find_op(symbol: &str) -> Option<Op>
     ensures found { IfSome result (λ op. symbol_of op ≡ symbol.now) }
     ensures none { IfNone result ((op : Op) → symbol_of op ≢ symbol.now) }

@@ -22,13 +22,20 @@ pub(crate) fn truth(value: bool) -> (Leaf, Alarm)
     (Leaf::Bool(value), Alarm::None)
 }
 
+fn by_zero() -> (Leaf, Alarm)
+    ensures value { result.0 ≡ Leaf.Int (pos 0) }
+    ensures alarm { result.1 ≡ Alarm.Division }
+{
+    (Leaf::Int(0), Alarm::Division)
+}
+
 /// The quotient toward zero, which wraps.
 pub(crate) fn quotient(a: i64, b: i64) -> (Leaf, Alarm)
     ensures value { result.0 ≡ Leaf.Int (quotient_of a b) }
     ensures alarm { result.1 ≡ (if is_zero b then Alarm.Division else Alarm.None) }
 {
     if b == 0 {
-        (Leaf::Int(0), Alarm::Division)
+        by_zero()
     } else {
         int(a.wrapping_div(b))
     }
@@ -40,7 +47,7 @@ pub(crate) fn remainder(a: i64, b: i64) -> (Leaf, Alarm)
     ensures alarm { result.1 ≡ (if is_zero b then Alarm.Division else Alarm.None) }
 {
     if b == 0 {
-        (Leaf::Int(0), Alarm::Division)
+        by_zero()
     } else {
         int(a.wrapping_rem(b))
     }
