@@ -1,1 +1,3 @@
 pub mod SymbolLemmas
+pub mod TableLemmas
+pub mod ValueLemmas

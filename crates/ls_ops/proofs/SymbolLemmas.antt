@@ -1,10 +1,10 @@
 -- The look-up of a symbol in a table.
-use Rattle.std.proofs.Common.{◌≡◌, ℕ, ◌<◌, ◌⊎◌, inl, inr, Bool, true, false, cond, not, ◌&&◌, List, [], ◌∷◌, map, length, Option, Some, None, find, IsTrue, refl, sym, ap, subst, ◌∙◌, ◌↔◌, arith}
+use Rattle.std.proofs.Common.{◌≡◌, ℕ, ◌⊎◌, inl, inr, Bool, true, false, cond, not, ◌&&◌, List, [], ◌∷◌, Option, Some, find, IsTrue, refl, sym, ap, subst, ◌∙◌, ◌↔◌, arith}
 use Rattle.std.specs.List.{Contains, list_any}
 use Rattle.std.specs.Option.{option_map}
 use Rattle.std.specs.Str.{bytes_eq}
 use Rattle.std.proofs.lemmas.Slice.Eq.{bytes_eq-Decides}
-use Rattle.std.proofs.lemmas.List.Elements.{Contains-append_cases, Contains-append_right, Contains-push_cases, Contains-push}
+use Rattle.std.proofs.lemmas.List.Elements.{Contains-append_cases, Contains-append_right, Contains-push_cases}
 use denote.Ref.{Bor}
 use Rattle.ls_ops.specs.declared.kinds.Op.{Op}
 use Rattle.ls_ops.specs.Symbols.{entries, are_distinct, first_with}

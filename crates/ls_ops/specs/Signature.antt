@@ -59,6 +59,16 @@ signature_of IntOfChar = CharInt
 signature_of IsDigit = CharPred
 signature_of IsLetter = CharPred
 
+-- the number of operands
+abbrev pub arity_of : OpSign → ℕ
+arity_of (Ints n) = n
+arity_of (IntPred n) = n
+arity_of (Bools n) = n
+arity_of CharPred = 1
+arity_of CharInt = 1
+arity_of Same = 2
+arity_of Choice = 3
+
 -- an operator that is a word written before its operands
 abbrev pub is_prefix : Op → Bool
 is_prefix Min = true

@@ -5,6 +5,8 @@ use Rattle.std.specs.List.{list_any}
 use Rattle.std.specs.Str.{bytes_eq}
 use denote.Ref.{Bor}
 use Rattle.ls_ops.specs.declared.kinds.Op.{Op}
+use Rattle.ls_ops.specs.declared.kinds.Op.TheVariants.{Add, Sub, Mul, Div, Rem, Neg, Less, LessEq, Greater, GreaterEq, Equal, Differ, Not, And, Or, Xor, Choose, Min, Max, Sign, Odd, IntOfChar, IsDigit, IsLetter}
+use Rattle.ls_ops.specs.Signature.{symbol_of}
 
 -- a table's rows, each an operator and its symbol
 abbrev pub entries : List (Op × Bor (List ℕ)) → List (Op × List ℕ)
@@ -18,3 +20,10 @@ are_distinct (row ∷ rest) = not (list_any (λ other. bytes_eq row.1.now other.
 -- the operator of the first row that has the symbol
 abbrev pub first_with : List (Op × Bor (List ℕ)) → List ℕ → Option Op
 first_with rows symbol = option_map (λ row. row.0) (find (λ row. bytes_eq row.1.now symbol) rows)
+
+abbrev pub all_operators : List Op
+all_operators = Add ∷ Sub ∷ Mul ∷ Div ∷ Rem ∷ Neg ∷ Less ∷ LessEq ∷ Greater ∷ GreaterEq ∷ Equal ∷ Differ ∷ Not ∷ And ∷ Or ∷ Xor ∷ Choose ∷ Min ∷ Max ∷ Sign ∷ Odd ∷ IntOfChar ∷ IsDigit ∷ IsLetter ∷ []
+
+-- each operator beside its symbol
+abbrev pub all_entries : List (Op × List ℕ)
+all_entries = map (λ op. (op, symbol_of op)) all_operators

@@ -1,5 +1,8 @@
 //! The operators, what they may take, and the alarm.
 
+ghost use Rattle.std.specs.Prelude.{◌≡◌};
+ghost use Rattle.ls_ops.specs.Signature.{arity_of};
+
 /// The 24 operators.
 #[derive(Clone, Copy, Debug, PartialEq, Eq)]
 pub enum Op {
@@ -46,6 +49,20 @@ pub enum OpSign {
     Same,
     /// A truth value and two leaves of one shape, to a leaf of that shape.
     Choice,
+}
+
+impl OpSign {
+    /// The number of operands.
+    pub fn arity(self) -> usize
+        ensures { result ≡ arity_of self }
+    {
+        match self {
+            OpSign::Ints(n) | OpSign::IntPred(n) | OpSign::Bools(n) => usize::from(n),
+            OpSign::CharPred | OpSign::CharInt => 1,
+            OpSign::Same => 2,
+            OpSign::Choice => 3,
+        }
+    }
 }
 
 /// What an operator reports besides its value.

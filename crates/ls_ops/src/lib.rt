@@ -2,9 +2,14 @@
 #![tactic(auto)]
 
 mod kinds;
+mod operands;
 mod operators;
+mod results;
 mod symbols;
 
 pub use kinds::{Alarm, Op, OpSign};
-pub use operators::{find_op, prefix, sign_of, symbol};
+pub use operators::{eval, find_op, prefix, sign_of, symbol};
 pub use symbols::OpTable;
+
+#[cfg(test)]
+mod tests;
