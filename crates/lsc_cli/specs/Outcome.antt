@@ -1,0 +1,97 @@
+-- What the top call writes, and its status.
+use Rattle.std.specs.Prelude.{◌≡◌, ℕ, ℤ, Bool, true, false, List, [], ◌∷◌, ◌++◌, Option, Some, None, codes, length, nat_lt, decimal, if◌then◌else◌, ⊤, option_and_then}
+use Rattle.std.specs.Option.{option_map}
+use Rattle.std.specs.Str.{bytes_eq}
+use Rattle.std.specs.Fmt.{signed_decimal}
+use Rattle.ls_ast.specs.declared.sum.RunningSum.{RunningSum}
+use Rattle.kahn_model.specs.RunningSum.{network}
+use Rattle.kahn_model.specs.RunText.{Node, Run, Stop, AtEnd, AtMost, AtLongLine, AtBadLine, AtAlarm, run}
+use Rattle.line_io.specs.Line.{lines_of}
+use Rattle.lsc_cli.specs.Bytes.{behind, is_blank, without_blanks_behind, int_of}
+use Rattle.lsc_cli.specs.SumForm.{SumFile, file_of}
+use Rattle.lsc_cli.specs.Words.{Command}
+use Rattle.lsc_cli.specs.declared.status.Status.{Status}
+use Rattle.lsc_cli.specs.declared.status.Status.TheVariants.{Done, Refused, Usage, BadLine, Alarm, Unloaded, ReadFault, WriteFault, NoMemory, TooLarge}
+
+pub record Outcome : Type 0 where
+  pub status : Status
+  pub text : List ℕ
+
+-- a line has one field, an integer, and blanks at will around it
+abbrev pub input_of : List ℕ → Option ℤ
+input_of line = int_of (without_blanks_behind (behind is_blank line))
+
+-- a row has one field, the integer
+abbrev pub row_text : Option ℤ → List ℕ
+row_text None = codes "\n"
+row_text (Some n) = signed_decimal n ++ codes "\n"
+
+-- the last instant of some inputs
+abbrev pub last_row : RunningSum → List ℤ → Option ℤ
+last_row body [] = None
+last_row body (x ∷ inputs) = network body (x ∷ inputs) (length inputs)
+
+-- a running sum as its lines see it; it has no division
+abbrev pub node_of : RunningSum → Node ℤ
+node_of body = record { inputs_of = input_of; row_of = λ inputs. row_text (last_row body inputs); is_alarmed = λ inputs. false }
+
+abbrev pub status_of : Stop → Status
+status_of AtEnd = Done
+status_of AtMost = Done
+status_of AtLongLine = TooLarge
+status_of (AtBadLine k) = BadLine
+status_of (AtAlarm k) = Alarm
+
+-- the line that closes a run
+abbrev pub closing_of : Stop → List ℕ
+closing_of AtEnd = []
+closing_of AtMost = []
+closing_of AtLongLine = []
+closing_of (AtBadLine k) = codes "bad line " ++ decimal k ++ codes "\n"
+closing_of (AtAlarm k) = codes "division by zero at instant " ++ decimal k ++ codes "\n"
+
+abbrev pub outcome_of : Run → Outcome
+outcome_of run = record { status = status_of run.stop; text = run.text ++ closing_of run.stop }
+
+-- the greatest number of lines that a run answers
+abbrev pub most_lines : ℕ
+most_lines = 4294967295
+
+abbrev pub run_outcome : RunningSum → List ℕ → Outcome
+run_outcome body input = outcome_of (run (node_of body) most_lines (lines_of input))
+
+abbrev pub refusal : List ℕ → Outcome
+refusal text = record { status = Refused; text = text }
+
+abbrev pub too_large : Outcome
+too_large = record { status = TooLarge; text = [] }
+
+-- what a file and a node's name come to before any input: an outcome, or a body that runs
+pub data Start : Type 0 where
+  Ends : Outcome → Start
+  Runs : RunningSum → Start
+
+abbrev pub start_node : List ℕ → Option SumFile → Start
+start_node node None = Ends (refusal (codes "refused: form not built\n"))
+start_node node (Some file) = if bytes_eq file.name node then Runs file.body else Ends (refusal (codes "refused: no such node\n"))
+
+abbrev pub start_of : List ℕ → List ℕ → Start
+start_of node file = if nat_lt 1048576 (length file) then Ends too_large else start_node node (file_of file)
+
+-- the call's outcome, where it is fixed by what is told
+abbrev pub outcome_at : Start → Option (List ℕ) → Option Outcome
+outcome_at (Ends outcome) input = Some outcome
+outcome_at (Runs body) input = option_map (run_outcome body) input
+
+-- an answer that tells of the outside, and not of the program and its input
+abbrev pub is_fault : Status → Bool
+is_fault Done = false
+is_fault Refused = false
+is_fault Usage = false
+is_fault BadLine = false
+is_fault Alarm = false
+is_fault Unloaded = true
+is_fault ReadFault = true
+is_fault WriteFault = true
+is_fault NoMemory = true
+is_fault TooLarge = false
