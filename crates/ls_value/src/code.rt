@@ -1,4 +1,4 @@
-ghost use Rattle.std.specs.Prelude.{◌≡◌, ℕ, ◌<◌, ◌^◌, ◌+◌, ◌++◌, List, length, decimal, drop, IfSome, IfOk, IfErr, OnErr, Some, Ok, IsTrue, ◌↔◌};
+ghost use Rattle.std.specs.Prelude.{◌≡◌, ℕ, ◌<◌, ◌^◌, decimal, IfSome, IfOk, OnErr, Some, Ok, IsTrue, ◌↔◌};
 ghost use Rattle.ls_value.specs.declared.leaf.Leaf.{Leaf};
 ghost use Rattle.ls_value.specs.Spelling.{Fits, IsLeaf, code_of, constructor_code};
 
