@@ -1,13 +1,15 @@
 ghost use Rattle.std.specs.Prelude.{◌≡◌, ◌<◌};
 
 use crate::{
-    Boxed, Failed, FileTexts, List, LoadFault, MemSink, MemSource, MemTexts, Name, Names, NoteCopy,
-    Sink, Source, Steps, Texts, write_all,
+    Boxed, Failed, FileTexts, List, LoadFault, MemSink, MemSource, MemTexts, Name, Names, NoMemory,
+    NoteCopy, Sink, Source, Steps, Texts, write_all,
 };
-use std::fs;
+use std::alloc::{AllocError, Global};
+use std::fs::Files;
 use std::marker::Brand;
 use std::sync::ledger::{Blank, Ledger};
 use std::test::Fail;
+use std::{fs, io};
 
 #[test]
 fn a_list_grows_at_its_end(rt: HostRuntime) -> Result<(), Fail> {
@@ -90,57 +92,78 @@ fn a_sink_fails_where_asked_and_past_its_room(rt: HostRuntime) -> Result<(), Fai
     Ok(())
 }
 
+fn named(alloc: Global, name: &str, bytes: Vec<u8>) -> Result<(String, Vec<u8>), AllocError> {
+    Ok((String::from_str(alloc, name)?, bytes))
+}
+
+fn some_texts(alloc: Global) -> Result<MemTexts, NoMemory> {
+    let mut files = Vec::new(alloc);
+    push(&mut files, named(alloc, "one", b"1".to_vec(alloc)?)?)?;
+    push(&mut files, named(alloc, "one", b"2".to_vec(alloc)?)?)?;
+    push(
+        &mut files,
+        named(alloc, "long", vec![in alloc; b'a'; 1_048_577]?)?,
+    )?;
+    Ok(MemTexts::new(files, [2].to_vec(alloc)?))
+}
+
+fn push(files: &mut Vec<(String, Vec<u8>)>, file: (String, Vec<u8>)) -> Result<(), NoMemory> {
+    match files.push(file) {
+        Ok(()) => Ok(()),
+        Err(_) => Err(NoMemory),
+    }
+}
+
 #[test]
 fn texts_in_memory(rt: HostRuntime) -> Result<(), Fail> {
-    let mut files = Vec::new(rt.alloc());
-    let long = vec![in rt.alloc(); b'a'; 1_048_577]?;
-    for (name, bytes) in [("one", "1"), ("one", "2")] {
-        files.push((
-            String::from_str(rt.alloc(), name)?,
-            bytes.as_bytes().to_vec(rt.alloc())?,
-        ))?;
-    }
-    files.push((String::from_str(rt.alloc(), "long")?, long))?;
-    let mut texts = MemTexts::new(files, [2].to_vec(rt.alloc())?);
+    let mut texts = some_texts(rt.alloc())?;
     let mut into = b"old".to_vec(rt.alloc())?;
-    assert_eq!(rt; texts.load("none", &mut into), Err(LoadFault::Failed));
-    assert_eq!(rt; into.len(), 0);
-    assert_eq!(rt; texts.load("one", &mut into), Ok(()));
-    assert_eq!(rt; into.as_slice(), b"1".as_slice());
-    assert_eq!(rt; texts.load("one", &mut into), Err(LoadFault::Failed));
-    assert_eq!(rt; into.len(), 0);
-    assert_eq!(rt; texts.load("long", &mut into), Err(LoadFault::TooLong));
-    assert_eq!(rt; into.len(), 0);
+    for (name, want, bytes) in [
+        ("none", Err(LoadFault::Failed), ""),
+        ("one", Ok(()), "1"),
+        ("one", Err(LoadFault::Failed), ""),
+        ("long", Err(LoadFault::TooLong), ""),
+    ] {
+        assert_eq!(rt; texts.load(name, &mut into), want, "{name}");
+        assert_eq!(rt; into.as_slice(), bytes.as_bytes(), "{name}");
+    }
     assert_eq!(rt; texts.faults("one"), 1);
     assert_eq!(rt; texts.faults("none"), 1);
     Ok(())
 }
 
+fn write_long<R: Files>(rt: &R, alloc: Global) -> io::Result<()> {
+    let long = vec![in alloc; b'a'; 1_048_577]?;
+    fs::write(rt, "ls_base_full.txt", &long[1..])?;
+    fs::write(rt, "ls_base_long.txt", long.as_slice())
+}
+
 #[test]
 fn texts_of_files(rt: HostRuntime) -> Result<(), Fail> {
-    let long = vec![in rt.alloc(); b'a'; 1_048_577]?;
-    fs::write(&rt, "ls_base_short.txt", "let x = 1\n")?;
-    fs::write(&rt, "ls_base_full.txt", &long[1..])?;
-    fs::write(&rt, "ls_base_long.txt", long.as_slice())?;
+    write_long(&rt, rt.alloc())?;
     let mut texts = FileTexts::new(&rt);
     let mut into = Vec::new(rt.alloc());
-    assert_eq!(rt; texts.load("ls_base_short.txt", &mut into), Ok(()));
-    assert_eq!(rt; into.as_slice(), b"let x = 1\n".as_slice());
-    assert_eq!(rt; texts.load("ls_base_full.txt", &mut into), Ok(()));
-    assert_eq!(rt; into.len(), 1_048_576);
-    assert_eq!(rt;
-        texts.load("ls_base_long.txt", &mut into),
-        Err(LoadFault::TooLong)
-    );
-    assert_eq!(rt; into.len(), 0);
-    assert_eq!(rt; texts.faults("ls_base_long.txt"), 0);
-    assert_eq!(rt;
-        texts.load("ls_base_none.txt", &mut into),
-        Err(LoadFault::Failed)
-    );
-    assert_eq!(rt; texts.faults("ls_base_none.txt"), 1);
-    for path in ["ls_base_short.txt", "ls_base_full.txt", "ls_base_long.txt"] {
-        fs::remove_file(&rt, path)?;
+    for (path, want, len, faults) in [
+        ("ls_base_full.txt", Ok(()), 1_048_576, 0),
+        ("ls_base_long.txt", Err(LoadFault::TooLong), 0, 0),
+        ("ls_base_none.txt", Err(LoadFault::Failed), 0, 1),
+    ] {
+        assert_eq!(rt; texts.load(path, &mut into), want, "{path}");
+        assert_eq!(rt; into.len(), len, "{path}");
+        assert_eq!(rt; texts.faults(path), faults, "{path}");
     }
+    fs::remove_file(&rt, "ls_base_full.txt")?;
+    fs::remove_file(&rt, "ls_base_long.txt")?;
+    Ok(())
+}
+
+#[test]
+fn the_text_of_a_file(rt: HostRuntime) -> Result<(), Fail> {
+    fs::write(&rt, "ls_base_short.txt", "let x = 1\n")?;
+    let mut into = Vec::new(rt.alloc());
+    let answer = FileTexts::new(&rt).load("ls_base_short.txt", &mut into);
+    assert_eq!(rt; answer, Ok(()));
+    assert_eq!(rt; into.as_slice(), b"let x = 1\n".as_slice());
+    fs::remove_file(&rt, "ls_base_short.txt")?;
     Ok(())
 }
