@@ -3,6 +3,8 @@
 
 mod copy;
 mod depth;
+#[cfg(test)]
+mod tests;
 mod tree;
 
 pub use depth::height;
