@@ -3,12 +3,12 @@
 
 mod copy;
 mod depth;
-mod sum;
+#[cfg(test)]
+mod tests;
 mod tree;
 
 pub use depth::height;
 pub use ls_base::NoteCopy;
-pub use sum::{RunningSum, Stream};
 pub use tree::{
     Arm, BodyOf, Case, Def, DefOf, Equation, Expr, File, FileOf, Form, Guard, Handler, Mark, Pat,
     Plain, State, Test,
