@@ -4,9 +4,9 @@ use Rattle.std.specs.Prelude.{ℤ, slice_get, option_and_then, ◌==◌, if◌th
 use Rattle.std.specs.Option.{option_map}
 use Rattle.std.proofs.lemmas.Bool.Decides.{nat_tests}
 use Rattle.std.specs.Int.{int_wrapping_add, w64}
-use Rattle.ls_ast.specs.declared.sum.RunningSum.{RunningSum}
-use Rattle.ls_ast.specs.declared.sum.Stream.{Stream}
-use Rattle.ls_ast.specs.declared.sum.Stream.TheVariants as streams
+use Rattle.kahn_model.specs.declared.running_sum.RunningSum.{RunningSum}
+use Rattle.kahn_model.specs.declared.running_sum.Stream.{Stream}
+use Rattle.kahn_model.specs.declared.running_sum.Stream.TheVariants as streams
 use Rattle.kahn_model.specs.RunningSum.{Row, given, turn, after, table, network, memory_after, plus, fby, delayed, previous, row_of, value_of, Remembers}
 
 abbrev sum_of : Option ℤ → Option ℤ → Option ℤ

@@ -3,5 +3,7 @@
 #![tactic(auto)]
 
 mod plain;
+mod running_sum;
 
 pub use plain::rows;
+pub use running_sum::{RunningSum, Stream};

@@ -1,7 +1,7 @@
 ghost use Rattle.std.specs.Prelude.{◌≡◌, ◌<◌, length, IfOk};
 ghost use Rattle.kahn_model.specs.RunningSum.{fby, given, network, row_in, row_of, turn};
 
-use ls_ast::{RunningSum, Stream};
+use crate::{RunningSum, Stream};
 use std::alloc::{AllocError, Global};
 
 /// The cells of the result at the instants of the inputs, by as many turns over whole rows as

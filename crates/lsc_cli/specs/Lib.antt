@@ -1,4 +1,5 @@
 pub mod Bytes
+pub mod Drive
 pub mod FormViews
 pub mod Outcome
 pub mod SumForm

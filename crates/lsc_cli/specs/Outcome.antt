@@ -3,9 +3,10 @@ use Rattle.std.specs.Prelude.{◌≡◌, ℕ, ℤ, Bool, true, false, List, [], 
 use Rattle.std.specs.Option.{option_map}
 use Rattle.std.specs.Str.{bytes_eq}
 use Rattle.std.specs.Fmt.{signed_decimal}
-use Rattle.ls_ast.specs.declared.sum.RunningSum.{RunningSum}
+use Rattle.kahn_model.specs.declared.running_sum.RunningSum.{RunningSum}
 use Rattle.kahn_model.specs.RunningSum.{network}
 use Rattle.kahn_model.specs.RunText.{Node, Run, Stop, AtEnd, AtMost, AtLongLine, AtBadLine, AtAlarm, run}
+use Rattle.ls_base.specs.Outside.{WritesFront}
 use Rattle.line_io.specs.Line.{lines_of}
 use Rattle.lsc_cli.specs.Bytes.{behind, is_blank, without_blanks_behind, int_of}
 use Rattle.lsc_cli.specs.SumForm.{SumFile, file_of}
@@ -95,3 +96,27 @@ is_fault ReadFault = true
 is_fault WriteFault = true
 is_fault NoMemory = true
 is_fault TooLarge = false
+
+-- the exit status of the program
+abbrev pub number_of : Status → ℕ
+number_of Done = 0
+number_of Refused = 1
+number_of Usage = 2
+number_of BadLine = 3
+number_of Alarm = 4
+number_of Unloaded = 5
+number_of ReadFault = 6
+number_of WriteFault = 7
+number_of NoMemory = 8
+number_of TooLarge = 9
+
+-- The call came to this outcome: with this status its text was written; and where a write failed, a
+-- front of it. The other faults of the outside leave it open.
+pub record Comes (outcome : Outcome) (answer : Status) (old new : Option (List ℕ)) : Type 0 where
+  pub status : is_fault answer ≡ false → answer ≡ outcome.status
+  pub text : is_fault answer ≡ false → new ≡ option_map (λ text. text ++ outcome.text) old
+  pub front : answer ≡ WriteFault → WritesFront old outcome.text new
+
+-- the closing line of a run and its status
+abbrev pub closing : Stop → Outcome
+closing stop = record { status = status_of stop; text = closing_of stop }

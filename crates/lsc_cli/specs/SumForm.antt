@@ -4,9 +4,9 @@
 use Rattle.std.specs.Prelude.{ℕ, ℤ, Bool, true, false, ◌==◌, nat_le, not, ◌||◌, if◌then◌else◌, List, [], ◌∷◌, Option, Some, None, length, codes, slice_index, option_and_then}
 use Rattle.std.specs.Option.{option_map}
 use Rattle.std.specs.Str.{bytes_eq}
-use Rattle.ls_ast.specs.declared.sum.RunningSum.{RunningSum}
-use Rattle.ls_ast.specs.declared.sum.Stream.{Stream}
-use Rattle.ls_ast.specs.declared.sum.Stream.TheVariants.{Param, Sum}
+use Rattle.kahn_model.specs.declared.running_sum.RunningSum.{RunningSum}
+use Rattle.kahn_model.specs.declared.running_sum.Stream.{Stream}
+use Rattle.kahn_model.specs.declared.running_sum.Stream.TheVariants.{Param, Sum}
 use Rattle.lsc_cli.specs.Bytes.{is_blank, is_letter, is_digit, is_word_byte, front, behind, int_of}
 
 infixl 10 ◌>>=◌

@@ -4,7 +4,7 @@ ghost use Rattle.lsc_cli.specs.Bytes as bytes_of;
 ghost use Rattle.lsc_cli.specs.SumForm as spec;
 ghost use Rattle.lsc_cli.specs.FormViews.{header_view, equation_view, file_view};
 
-use ls_ast::{RunningSum, Stream};
+use kahn_model::{RunningSum, Stream};
 use ls_value::read_int;
 
 /// A class of bytes.
@@ -38,6 +38,27 @@ fn split(class: Class, bytes: &[u8]) -> (&[u8], &[u8])
         }
     }
     (bytes, &bytes[bytes.len()..])
+}
+
+/// The bytes without the blanks at their two ends.
+pub fn without_blanks(bytes: &[u8]) -> &[u8]
+    ensures { result.now ≡ bytes_of.without_blanks_behind (bytes_of.behind bytes_of.is_blank bytes.now) }
+{
+    let (_, text) = split(Class::Blank, bytes);
+    without_blanks_behind(text)
+}
+
+fn without_blanks_behind(bytes: &[u8]) -> &[u8]
+    ensures { result.now ≡ bytes_of.without_blanks_behind bytes.now }
+{
+    let mut text = bytes;
+    while let [rest @ .., last] = text {
+        if !Class::Blank.has(*last) {
+            break;
+        }
+        text = rest;
+    }
+    text
 }
 
 /// The word after the blanks, and what follows it.

@@ -1,6 +1,11 @@
 //! The top call: from the words of a command and the objects of the outside to what is written.
 #![tactic(auto)]
 
+mod call;
 mod form;
+mod lines;
+mod status;
 
-pub use form::{SumFile, int_of, sum_file};
+pub use call::lsc;
+pub use lines::{DriveEnd, drive};
+pub use status::Status;

@@ -2,7 +2,7 @@ ghost use Rattle.std.specs.Prelude.{◌≡◌, ℤ, List, [], ◌∷◌, ◌++�
 ghost use Rattle.kahn_model.specs.RunningSum.{Remembers, network};
 ghost use Rattle.kahn_model.specs.RunningSum as spec;
 
-use ls_ast::{RunningSum, Stream};
+use kahn_model::{RunningSum, Stream};
 
 /// A running sum with the one integer that its delay keeps from step to step.
 #[derive(Clone, Copy, Debug, PartialEq, Eq)]
