@@ -1,3 +1,4 @@
 pub mod Character
+pub mod Reading
 pub mod Spelling
 pub mod TextBytes
