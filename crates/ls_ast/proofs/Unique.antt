@@ -1,9 +1,9 @@
 -- A function over expressions is the fold where it commutes with one layer: so two definitions over expressions are compared layer by layer.
-use Rattle.std.specs.Prelude.{◌≡◌, List, [], ◌∷◌, map, Option, Some, None, option_map, refl}
+use Rattle.std.specs.Prelude.{◌≡◌, List, [], ◌∷◌, map, Some, None, refl}
 use Rattle.std.proofs.Common.{ap, ap₂, sym, ◌∙◌, subst}
 use Rattle.ls_ast.specs.declared.tree.Case.{Case}
 use Rattle.ls_ast.specs.declared.tree.Expr.{Expr, Expr-F, fold-Expr, ind-Expr, fold-roll-Expr, map-Expr, roll-Expr}
-use Rattle.ls_ast.specs.declared.tree.Form.{Form, roll-Form, fold-Form, ind-Form, fold-roll-Form, map-Form}
+use Rattle.ls_ast.specs.declared.tree.Form.{Form, roll-Form, fold-Form, fold-roll-Form, map-Form}
 use Rattle.ls_ast.specs.declared.tree.Form.TheOpen.{Form-F}
 
 -- a part, with a proof that two functions agree there
