@@ -31,21 +31,21 @@ comes-run r stop answer old mid new e written comes = record {
   status = λ none. comes.status none ∙ ap status_of (sym e);
   text = λ none. comes.text none ∙ ap (option_map (λ text. text ++ closing_of stop)) written ∙ two_texts old r.text (closing_of stop)
       ∙ (λ i. option_map (λ text. text ++ (r.text ++ closing_of (sym e i))) old);
-  front = λ fault. subst (λ s. WritesFront old (r.text ++ closing_of s) new) (sym e) (front_behind r.text (closing_of stop) old mid new written (comes.front fault))
+  front = λ fault. subst (λ s. WritesFront old (r.text ++ closing_of s) new) (sym e) (front_behind r.text (closing_of stop) old mid new written (comes.front fault));
 }
 
 comes-read : (outcome : Outcome) (answer : Status) (old new : Option (List ℕ)) → answer ≡ statuses.ReadFault → Comes outcome answer old new
 comes-read outcome answer old new is = record {
   status = λ none. absurd (let e : true ≡ false = ap is_fault (sym is) ∙ none in cc);
   text = λ none. absurd (let e : true ≡ false = ap is_fault (sym is) ∙ none in cc);
-  front = λ fault. absurd (let e : statuses.ReadFault ≡ statuses.WriteFault = sym is ∙ fault in cc)
+  front = λ fault. absurd (let e : statuses.ReadFault ≡ statuses.WriteFault = sym is ∙ fault in cc);
 }
 
 comes-write : (r : Run) (answer : Status) (old new : Option (List ℕ)) → answer ≡ statuses.WriteFault → WritesFront old r.text new → Comes (outcome_of r) answer old new
 comes-write r answer old new is front = record {
   status = λ none. absurd (let e : true ≡ false = ap is_fault (sym is) ∙ none in cc);
   text = λ none. absurd (let e : true ≡ false = ap is_fault (sym is) ∙ none in cc);
-  front = λ fault. front_longer r.text (closing_of r.stop) old new front
+  front = λ fault. front_longer r.text (closing_of r.stop) old new front;
 }
 
 -- the run over all that was left, and its closing line
@@ -63,4 +63,4 @@ run-closed body (Some bytes) old mid new ends.LongLine answer over begun close f
 run-closed body (Some bytes) old mid new ends.ReadFault answer over begun close fault = comes-read (run_outcome body bytes) answer old new (fault refl).1
 run-closed body (Some bytes) old mid new ends.WriteFault answer over begun close fault =
     comes-write (run (node_of body) most_lines (lines_of bytes)) answer old new (fault refl).1
-        (subst (WritesFront old (run (node_of body) most_lines (lines_of bytes)).text) (sym (fault refl).0) (begun refl))
+    (subst (WritesFront old (run (node_of body) most_lines (lines_of bytes)).text) (sym (fault refl).0) (begun refl))

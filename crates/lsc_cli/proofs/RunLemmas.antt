@@ -226,16 +226,16 @@ module _ (body : RunningSum) (most count : ℕ) (h : count < most) (first now ne
       → Answered body most (count + 1) first next old new m'.memory
   answered-line m' is' answers goes_on =
       answered-row body most count h first now next old written new m.memory m'.memory line answers.input answers.value a split short goes_on answers.spelled
-          (λ inputs r. subst (λ b. network b (inputs ++ answers.input ∷ []) (length inputs) ≡ Some answers.value) is (answers.cell inputs (had inputs r)))
-          (λ inputs r. subst (λ b. Remembers b (inputs ++ answers.input ∷ []) m'.memory) is' (answers.remembers inputs (had inputs r)))
-          answers.written
+      (λ inputs r. subst (λ b. network b (inputs ++ answers.input ∷ []) (length inputs) ≡ Some answers.value) is (answers.cell inputs (had inputs r)))
+      (λ inputs r. subst (λ b. Remembers b (inputs ++ answers.input ∷ []) m'.memory) is' (answers.remembers inputs (had inputs r)))
+      answers.written
 
   -- a front of that row is a front of the run's text
   pub begun-line : Begins m line written new → IsBegun body most first old new
   begun-line begins =
       begun-row body most count h first now old written new m.memory line begins.input begins.value a split short begins.spelled
-          (λ inputs r. subst (λ b. network b (inputs ++ begins.input ∷ []) (length inputs) ≡ Some begins.value) is (begins.cell inputs (had inputs r)))
-          begins.front
+      (λ inputs r. subst (λ b. network b (inputs ++ begins.input ∷ []) (length inputs) ≡ Some begins.value) is (begins.cell inputs (had inputs r)))
+      begins.front
 
 -- the line that is given is the first of what is ahead
 pub split-line : (now : Option (List ℕ)) (line given : List ℕ) → given ≡ line → IfSome now (λ bytes. (0 < length bytes) × (line ≡ line_of bytes))

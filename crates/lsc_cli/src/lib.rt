@@ -5,6 +5,8 @@ mod call;
 mod form;
 mod lines;
 mod status;
+#[cfg(test)]
+mod tests;
 
 pub use call::lsc;
 pub use lines::{DriveEnd, drive};
