@@ -1,3 +1,5 @@
+pub mod FieldLemmas
 pub mod LineLemmas
 pub mod NextLemmas
 pub mod Parts
+pub mod WordLemmas

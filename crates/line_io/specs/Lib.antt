@@ -1,1 +1,5 @@
+pub mod Cells
+pub mod Fields
 pub mod Line
+pub mod Places
+pub mod Words

@@ -3,5 +3,10 @@
 #![tactic(auto)]
 
 mod buffer;
+mod cells;
+mod form;
+mod read;
+mod words;
 
 pub use buffer::{LineBuf, Next};
+pub use form::{Cell, Field, InputForm};

@@ -1,0 +1,42 @@
+use ls_base::{List, Name, Names};
+use ls_value::{Leaf, Shape};
+
+/// What the lines of a node's inputs are made of: a field for each leaf of each parameter.
+#[derive(Drop)]
+pub struct InputForm {
+    pub fields: List<Field>,
+    /// The constructors of each enumeration, in order.
+    pub cases: List<List<Name>>,
+    pub names: Names,
+}
+
+/// A field of a line.
+#[derive(Drop)]
+pub struct Field {
+    pub shape: Shape,
+    /// Its clock: the places of other fields, from 0, with the leaves that they must hold.
+    pub on: List<(u32, Leaf)>,
+    /// The number of the signal that it is a leaf of. Fields of one signal have one number.
+    pub signal: Option<u32>,
+}
+
+/// What a node takes or gives at one leaf in one instant.
+#[derive(Clone, Copy, Debug)]
+pub enum Cell {
+    /// The clock of the leaf is off.
+    Absent,
+    /// The leaf is of a signal that is not emitted.
+    NotEmitted,
+    Leaf(Leaf),
+}
+
+/// What a field of a line reads as.
+#[derive(Clone, Copy)]
+pub(crate) enum Reading {
+    /// It is `.`.
+    Dot,
+    /// It spells this leaf.
+    Leaf(Leaf),
+    /// It is missing, or spells nothing.
+    Bad,
+}
