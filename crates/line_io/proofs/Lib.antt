@@ -1,3 +1,4 @@
+pub mod CellLemmas
 pub mod FieldLemmas
 pub mod LineLemmas
 pub mod NextLemmas

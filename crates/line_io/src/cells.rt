@@ -78,7 +78,7 @@ fn is_silent(fields: &[Field], readings: &[Reading], signal: Option<u32>) -> boo
 }
 
 /// The cell of a field, where it is not bad.
-fn cell_at(fields: &[Field], readings: &[Reading], at: usize) -> Option<Cell>
+pub(crate) fn cell_at(fields: &[Field], readings: &[Reading], at: usize) -> Option<Cell>
     requires { (at < length fields.now) × (length readings.now ≡ length fields.now) }
     ensures found { IfSome result (λ cell. CellAt fields.now readings.now at cell) }
     ensures none { IfNone result ((cell : Cell) → ¬ CellAt fields.now readings.now at cell) }

@@ -5,8 +5,10 @@
 mod buffer;
 mod cells;
 mod form;
+mod inputs;
 mod read;
 mod words;
 
 pub use buffer::{LineBuf, Next};
 pub use form::{Cell, Field, InputForm};
+pub use inputs::{BadField, Inputs};

@@ -81,7 +81,7 @@ fn read_word(form: &InputForm, shape: Shape, word: &[u8]) -> Option<Leaf>
 }
 
 /// What a word reads as where a leaf of a shape may stand.
-fn read_field(form: &InputForm, shape: Shape, word: &[u8]) -> Reading
+pub(crate) fn read_field(form: &InputForm, shape: Shape, word: &[u8]) -> Reading
     ensures { ReadsAs form.now shape (Some word.now) result }
 {
     if word == b".".as_slice() {
