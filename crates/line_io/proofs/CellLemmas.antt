@@ -4,13 +4,14 @@ use Rattle.std.specs.Prelude.{slice_get, MatchOption, IfNone, IfSome, IsTrue, is
 use Rattle.std.proofs.lemmas.Grind.{common_steps}
 use Rattle.std.proofs.lemmas.Option.{slice_get_within, get_or_from_slice_get, slice_get-get_or, slice_get_past}
 use Rattle.line_io.specs.Fields.{Reads, ReadsAs}
-use Rattle.line_io.specs.Cells.{CellAt}
+use Rattle.line_io.specs.Cells.{CellAt, CellIs, IsBadField}
 use Rattle.line_io.specs.Line.{part}
 use Rattle.line_io.specs.Words.{words_of}
 use Rattle.line_io.specs.declared.form.InputForm.{InputForm}
 use Rattle.line_io.specs.declared.form.Field.{Field}
 use Rattle.line_io.specs.declared.form.Reading.{Reading}
 use Rattle.line_io.specs.declared.form.Cell.{Cell}
+use Rattle.line_io.specs.declared.form.Cell.TheVariants.{Absent}
 use Rattle.line_io.proofs.Parts.{drop-drop}
 
 -- the first readings are those of a line
@@ -114,3 +115,49 @@ pub cell_found : (fields : List Field) (readings : List Reading) (cells : List C
 cell_found fields readings cells n all each at cell is =
     let lt = slice_get_within cells at cell is in
     subst (λ (c : Cell). CellAt fields readings at c) (get_or_from_slice_get cells at cell cell is) (each at cell (omega arith))
+
+-- the first field without a cell is the bad one
+pub bad_at : (form : InputForm) (line : List ℕ) (fields : List Field) (readings found : List Reading) (bad : ℕ) → fields ≡ form.fields → found ≡ readings
+    → Reads form line readings
+    → ((at : ℕ) → at < bad → (cell : Cell) × CellAt fields found at cell)
+    → ((cell : Cell) → ¬ CellAt fields found bad cell)
+    → bad < length fields
+    → IsBadField form line (bad + 1)
+bad_at form line fields readings found bad is same reads before here lt =
+    subst (λ (fs : List Field). ((at : ℕ) → at < bad → (cell : Cell) × CellAt fs found at cell) → ((cell : Cell) → ¬ CellAt fs found bad cell) → bad < length fs → IsBadField form line (bad + 1)) (sym is)
+      (λ before here lt. record {
+        readings = found;
+        reads = subst (λ (rs : List Reading). Reads form line rs) (sym same) reads;
+        before = λ at under. before at (omega arith);
+        here = λ at cell next. subst (λ (k : ℕ). ¬ CellAt form.fields found k cell) (back at bad next) (here cell);
+        there = inl (omega arith);
+        counted = omega arith;
+      })
+      before here lt
+  where
+    back : (at bad : ℕ) → at + 1 ≡ bad + 1 → bad ≡ at
+    back at bad e = omega arith
+
+-- past the fields there is no cell
+no_cell : (fields : List Field) (readings : List Reading) (at : ℕ) (cell : Cell) → length fields ≤ at → ¬ CellAt fields readings at cell
+no_cell fields readings at cell past h =
+    subst (λ (o : Option Field). MatchOption o ⊥ (λ field. MatchOption (slice_get readings at) ⊥ (λ reading. CellIs fields readings field reading cell))) (slice_get_past fields at past) h
+
+-- a field too many is the bad one where each field of the form has a cell
+pub bad_past : (form : InputForm) (line : List ℕ) (fields : List Field) (readings found : List Reading) (cells : List Cell) → fields ≡ form.fields → found ≡ readings
+    → Reads form line readings
+    → ((at : ℕ) (cell : Cell) → slice_get cells at ≡ Some cell → CellAt fields found at cell)
+    → length cells ≡ length fields
+    → length form.fields < length (words_of line)
+    → IsBadField form line (length fields + 1)
+bad_past form line fields readings found cells is same reads each all more =
+    subst (λ (fs : List Field). ((at : ℕ) (cell : Cell) → slice_get cells at ≡ Some cell → CellAt fs found at cell) → length cells ≡ length fs → IsBadField form line (length fs + 1)) (sym is)
+      (λ each all. record {
+        readings = found;
+        reads = subst (λ (rs : List Reading). Reads form line rs) (sym same) reads;
+        before = λ at under. (get_or cells at Absent, each at (get_or cells at Absent) (slice_get-get_or cells at Absent (omega arith)));
+        here = λ at cell next. no_cell form.fields found at cell (omega arith);
+        there = inr (omega arith);
+        counted = omega arith;
+      })
+      each all

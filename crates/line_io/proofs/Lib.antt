@@ -3,4 +3,5 @@ pub mod FieldLemmas
 pub mod LineLemmas
 pub mod NextLemmas
 pub mod Parts
+pub mod RowLemmas
 pub mod WordLemmas

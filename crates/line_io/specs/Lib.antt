@@ -2,4 +2,5 @@ pub mod Cells
 pub mod Fields
 pub mod Line
 pub mod Places
+pub mod Rows
 pub mod Words

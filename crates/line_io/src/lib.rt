@@ -7,8 +7,10 @@ mod cells;
 mod form;
 mod inputs;
 mod read;
+mod row;
 mod words;
 
 pub use buffer::{LineBuf, Next};
 pub use form::{Cell, Field, InputForm};
 pub use inputs::{BadField, Inputs};
+pub use row::{OutRow, write_row};
