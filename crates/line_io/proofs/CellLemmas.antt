@@ -1,7 +1,6 @@
 -- Lemmas on the readings and the cells of a line.
 use Rattle.std.proofs.Common.{◌≡◌, ℕ, Bool, zero, suc, ◌+◌, ◌<◌, ◌≤◌, ◌⊎◌, ⊎_elim, inl, inr, List, [], ◌∷◌, Option, Some, None, length, drop, set, get_or, refl, sym, ◌∙◌, ap, subst, arith, length-drop}
 use Rattle.std.specs.Prelude.{slice_get, MatchOption, IfNone, IfSome, IsTrue, is_some, ◌↔◌}
-use Rattle.std.proofs.lemmas.Grind.{common_steps}
 use Rattle.std.proofs.lemmas.Option.{slice_get_within, get_or_from_slice_get, slice_get-get_or, slice_get_past}
 use Rattle.line_io.specs.Fields.{Reads, ReadsAs}
 use Rattle.line_io.specs.Cells.{CellAt, CellIs, IsBadField}
@@ -49,7 +48,7 @@ read_at : (form : InputForm) (fields : Option Field) (readings : Option Reading)
     → fields ≡ Some field → readings ≡ Some reading → word ≡ other → ReadsAs form field.shape word reading → ReadAt form fields readings other
 read_at form fields readings word other field reading is from same h =
     subst (λ (o : Option Field). ReadAt form o readings other) (sym is) (subst (λ (o : Option Reading). ReadAt form (Some field) o other) (sym from)
-      (subst (λ (w : Option (List ℕ)). ReadsAs form field.shape w reading) same h))
+    (subst (λ (w : Option (List ℕ)). ReadsAs form field.shape w reading) same h))
 
 -- one field more is read
 pub read_more : (form : InputForm) (line : List ℕ) (from n : ℕ) (readings : List Reading) (fields : List Field) (field : Field) (reading : Reading)
@@ -60,14 +59,14 @@ pub read_more : (form : InputForm) (line : List ℕ) (from n : ℕ) (readings : 
     → ReadUpTo form line (set readings n reading) (n + 1)
 read_more form line from n readings fields field reading lt in_form is rest reads before k under =
     ⊎_elim
-      (λ (less : k < n). subst (λ (o : Option Reading). ReadAt form (slice_get form.fields k) o (slice_get (words_of line) k)) (sym (get_set_other readings n k reading less)) (before k less))
-      (λ (same : k ≡ n). subst (λ (i : ℕ). ReadAt form (slice_get form.fields i) (slice_get (set readings n reading) i) (slice_get (words_of line) i)) (sym same)
-        (read_at form _ _ (slice_get (words_of (drop from line)) 0) _ (get_or fields n field) reading
-          (ap (λ (fs : List Field). slice_get fs n) (sym is) ∙ slice_get-get_or fields n field in_form)
-          (get_set_at readings n reading lt)
-          (ap (λ (ws : List (List ℕ)). slice_get ws 0) (sym rest) ∙ get_dropped (words_of line) n)
-          reads))
-      (split_more k n under)
+    (λ (less : k < n). subst (λ (o : Option Reading). ReadAt form (slice_get form.fields k) o (slice_get (words_of line) k)) (sym (get_set_other readings n k reading less)) (before k less))
+    (λ (same : k ≡ n). subst (λ (i : ℕ). ReadAt form (slice_get form.fields i) (slice_get (set readings n reading) i) (slice_get (words_of line) i)) (sym same)
+    (read_at form _ _ (slice_get (words_of (drop from line)) 0) _ (get_or fields n field) reading
+    (ap (λ (fs : List Field). slice_get fs n) (sym is) ∙ slice_get-get_or fields n field in_form)
+    (get_set_at readings n reading lt)
+    (ap (λ (ws : List (List ℕ)). slice_get ws 0) (sym rest) ∙ get_dropped (words_of line) n)
+    reads))
+    (split_more k n under)
 
 -- and the words that are left
 pub words_more : (words : List (List ℕ)) (line : List ℕ) (from end n : ℕ) → drop n words ≡ words_of (drop from line) → words_of (drop end line) ≡ drop 1 (words_of (drop from line))
@@ -79,7 +78,7 @@ pub read_all : (form : InputForm) (line : List ℕ) (readings : List Reading) (n
 read_all form line readings n all past up = record {
   all = all;
   each = λ k.
-    ⊎_elim
+      ⊎_elim
       (λ under. up k under)
       (λ over. subst (λ (o : Option Field). MatchOption o (Unit {0}) (λ f. MatchOption (slice_get readings k) ⊥ (λ r. ReadsAs form f.shape (slice_get (words_of line) k) r))) (sym (slice_get_past form.fields k (omega arith))) tt)
       (split k n);
@@ -107,7 +106,7 @@ pub more_is : (words left : List (List ℕ)) (line : List ℕ) (n m : ℕ) (next
     → IsTrue b ↔ (m < length words)
 more_is words left line n m next b same is left_is none some =
     subst (λ (k : ℕ). IsTrue b ↔ (k < length words)) same
-      (subst (λ (t : Bool). IsTrue t ↔ (n < length words)) (sym is) (more_at words left line n next left_is none some))
+    (subst (λ (t : Bool). IsTrue t ↔ (n < length words)) (sym is) (more_at words left line n next left_is none some))
 
 -- a cell that is found in a list
 pub cell_found : (fields : List Field) (readings : List Reading) (cells : List Cell) (n : ℕ) → length cells ≤ n → ((k : ℕ) (d : Cell) → k < n → CellAt fields readings k (get_or cells k d))
@@ -125,15 +124,15 @@ pub bad_at : (form : InputForm) (line : List ℕ) (fields : List Field) (reading
     → IsBadField form line (bad + 1)
 bad_at form line fields readings found bad is same reads before here lt =
     subst (λ (fs : List Field). ((at : ℕ) → at < bad → (cell : Cell) × CellAt fs found at cell) → ((cell : Cell) → ¬ CellAt fs found bad cell) → bad < length fs → IsBadField form line (bad + 1)) (sym is)
-      (λ before here lt. record {
-        readings = found;
-        reads = subst (λ (rs : List Reading). Reads form line rs) (sym same) reads;
-        before = λ at under. before at (omega arith);
-        here = λ at cell next. subst (λ (k : ℕ). ¬ CellAt form.fields found k cell) (back at bad next) (here cell);
-        there = inl (omega arith);
-        counted = omega arith;
-      })
-      before here lt
+    (λ before here lt. record {
+      readings = found;
+      reads = subst (λ (rs : List Reading). Reads form line rs) (sym same) reads;
+      before = λ at under. before at (omega arith);
+      here = λ at cell next. subst (λ (k : ℕ). ¬ CellAt form.fields found k cell) (back at bad next) (here cell);
+      there = inl (omega arith);
+      counted = omega arith;
+    })
+    before here lt
   where
     back : (at bad : ℕ) → at + 1 ≡ bad + 1 → bad ≡ at
     back at bad e = omega arith
@@ -152,12 +151,12 @@ pub bad_past : (form : InputForm) (line : List ℕ) (fields : List Field) (readi
     → IsBadField form line (length fields + 1)
 bad_past form line fields readings found cells is same reads each all more =
     subst (λ (fs : List Field). ((at : ℕ) (cell : Cell) → slice_get cells at ≡ Some cell → CellAt fs found at cell) → length cells ≡ length fs → IsBadField form line (length fs + 1)) (sym is)
-      (λ each all. record {
-        readings = found;
-        reads = subst (λ (rs : List Reading). Reads form line rs) (sym same) reads;
-        before = λ at under. (get_or cells at Absent, each at (get_or cells at Absent) (slice_get-get_or cells at Absent (omega arith)));
-        here = λ at cell next. no_cell form.fields found at cell (omega arith);
-        there = inr (omega arith);
-        counted = omega arith;
-      })
-      each all
+    (λ each all. record {
+      readings = found;
+      reads = subst (λ (rs : List Reading). Reads form line rs) (sym same) reads;
+      before = λ at under. (get_or cells at Absent, each at (get_or cells at Absent) (slice_get-get_or cells at Absent (omega arith)));
+      here = λ at cell next. no_cell form.fields found at cell (omega arith);
+      there = inr (omega arith);
+      counted = omega arith;
+    })
+    each all

@@ -4,7 +4,7 @@ use Rattle.ls_value.specs.Reading.{IsToken}
 use Rattle.ls_value.specs.declared.leaf.Leaf.{Leaf}
 use Rattle.ls_value.specs.declared.leaf.Leaf.TheVariants.{Nil, Int, Bool, Char, Text, Enum, Unit as Nothing}
 use Rattle.ls_value.specs.declared.leaf.Shape.{Shape}
-use Rattle.ls_value.specs.declared.leaf.Shape.TheVariants.{Int as Ints, Bool as Bools, Char as Chars, Text as Texts, Enum as Enums, Unit as Units}
+use Rattle.ls_value.specs.declared.leaf.Shape.TheVariants.{Char as Chars}
 use Rattle.line_io.specs.declared.form.InputForm.{InputForm}
 use Rattle.line_io.specs.Fields.{Spells}
 

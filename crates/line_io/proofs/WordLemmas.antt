@@ -1,9 +1,8 @@
 -- Lemmas on how a line is cut into fields.
-use Rattle.std.proofs.Common.{◌≡◌, ◌≢◌, ℕ, zero, suc, ◌+◌, ◌-◌, ◌<◌, ◌≤◌, Bool, true, false, List, [], ◌∷◌, ◌++◌, length, take, drop, get_or, Option, None, Some, refl, sym, ◌∙◌, ap, subst, arith, append_assoc, length-append, add-one, drop-cons}
+use Rattle.std.proofs.Common.{◌≡◌, ℕ, ◌+◌, ◌<◌, ◌≤◌, Bool, true, false, List, [], ◌∷◌, ◌++◌, length, take, drop, get_or, refl, sym, ◌∙◌, ap, arith, append_assoc, add-one, drop-cons}
 use Rattle.std.specs.Prelude.{if◌then◌else◌, ◌==◌, ◌||◌}
 use Rattle.std.proofs.lemmas.List.{append-nil, take_all, drop_all, take_more}
-use Rattle.std.proofs.lemmas.Grind.{common_steps}
-use Rattle.line_io.specs.Line.{onto, part}
+use Rattle.line_io.specs.Line.{onto}
 use Rattle.line_io.specs.Places.{inside, ends}
 use Rattle.line_io.specs.Words.{is_blank, opened, quoted_on, words_of, words_from}
 use Rattle.line_io.specs.declared.words.Place.{Place}
@@ -88,9 +87,9 @@ pub scan_first : (text : List ℕ) → 0 < length text → is_blank (get_or text
 scan_first text some e = record {
   inner = opened_inside (get_or text 0 0);
   words =
-    let next = drop_next text 0 some in
-    scan_words text (get_or text 0 0) (drop 1 text) next e
-    ∙ ap (λ (xs : List ℕ). joined xs (words_from (opened (get_or text 0 0)) (drop 1 text))) (sym (take_more text 0 0 some));
+      let next = drop_next text 0 some in
+      scan_words text (get_or text 0 0) (drop 1 text) next e
+      ∙ ap (λ (xs : List ℕ). joined xs (words_from (opened (get_or text 0 0)) (drop 1 text))) (sym (take_more text 0 0 some));
 }
 
 pub scan_next : (text : List ℕ) (i : ℕ) (place : Place) → i < length text → ends place (get_or text i 0) ≡ false → Scanned text i place
@@ -98,11 +97,11 @@ pub scan_next : (text : List ℕ) (i : ℕ) (place : Place) → i < length text 
 scan_next text i place lt e so = record {
   inner = stays_inside place (get_or text i 0) so.inner;
   words =
-    so.words
-    ∙ ap (λ (xs : List ℕ). joined (take i text) (words_from place xs)) (drop_next text i lt)
-    ∙ ap (joined (take i text)) (goes_on place (get_or text i 0) (drop (i + 1) text) so.inner e)
-    ∙ joined_onto (take i text) (get_or text i 0) (words_from (inside place (get_or text i 0)) (drop (i + 1) text))
-    ∙ ap (λ (xs : List ℕ). joined xs (words_from (inside place (get_or text i 0)) (drop (i + 1) text))) (sym (take_more text i 0 lt));
+      so.words
+      ∙ ap (λ (xs : List ℕ). joined (take i text) (words_from place xs)) (drop_next text i lt)
+      ∙ ap (joined (take i text)) (goes_on place (get_or text i 0) (drop (i + 1) text) so.inner e)
+      ∙ joined_onto (take i text) (get_or text i 0) (words_from (inside place (get_or text i 0)) (drop (i + 1) text))
+      ∙ ap (λ (xs : List ℕ). joined xs (words_from (inside place (get_or text i 0)) (drop (i + 1) text))) (sym (take_more text i 0 lt));
 }
 
 -- the field ends before a byte

@@ -1,5 +1,5 @@
 -- What a field of a line holds.
-use Rattle.std.specs.Prelude.{◌≡◌, ◌≢◌, ℕ, ◌==◌, ◌≤◌, Bool as Truth, false, List, [], ◌∷◌, Option, None, Some, length, codes, slice_get, MatchOption, position}
+use Rattle.std.specs.Prelude.{◌≡◌, ◌≢◌, ℕ, ◌≤◌, Bool as Truth, false, List, [], ◌∷◌, Option, None, Some, length, codes, slice_get, MatchOption, position}
 use Rattle.std.specs.Str.{bytes_eq}
 use Rattle.ls_base.specs.declared.Name.{Name}
 use Rattle.ls_value.specs.Reading.{IsIntText, int_value, IsToken}

@@ -105,18 +105,33 @@ fn spell_case(enumeration: u32, place: u32, form: &InputForm) -> &str
 }
 
 /// Puts the name of a constructor.
-fn put_case<K: Sink>(enumeration: u32, place: u32, form: &InputForm, pending: &mut ArrayVec<u8, ROOM>, out: &mut K) -> Result<(), Failed>
+fn put_case<K: Sink>(
+    enumeration: u32,
+    place: u32,
+    form: &InputForm,
+    pending: &mut ArrayVec<u8, ROOM>,
+    out: &mut K,
+) -> Result<(), Failed>
     requires { HasCase form.now enumeration place }
     ensures all { OnOk result (Begins (K.written out.old) (pending.old.items ++ leaf_text form.now (Enum enumeration place)) (K.written out.new) pending.new.items) }
     ensures front { OnErr result (WritesFront (K.written out.old) (pending.old.items ++ leaf_text form.now (Enum enumeration place)) (K.written out.new)) }
     ensures failed { OnErr result (Rose (K.count out.old) (K.count out.new)) }
     ensures counted { K.count out.old ≤ K.count out.new }
 {
-    put(pending, spell_case(enumeration, place, form).as_bytes(), out)
+    put(
+        pending,
+        spell_case(enumeration, place, form).as_bytes(),
+        out,
+    )
 }
 
 /// Puts a cell.
-fn put_cell<K: Sink>(cell: &Cell, form: &InputForm, pending: &mut ArrayVec<u8, ROOM>, out: &mut K) -> Result<(), Failed>
+fn put_cell<K: Sink>(
+    cell: &Cell,
+    form: &InputForm,
+    pending: &mut ArrayVec<u8, ROOM>,
+    out: &mut K,
+) -> Result<(), Failed>
     requires { IsWritable form.now cell.now }
     ensures all { OnOk result (Begins (K.written out.old) (pending.old.items ++ cell_text form.now cell.now) (K.written out.new) pending.new.items) }
     ensures front { OnErr result (WritesFront (K.written out.old) (pending.old.items ++ cell_text form.now cell.now) (K.written out.new)) }
@@ -125,7 +140,13 @@ fn put_cell<K: Sink>(cell: &Cell, form: &InputForm, pending: &mut ArrayVec<u8, R
 {
     match cell {
         Cell::Absent | Cell::NotEmitted => put(pending, b".", out),
-        Cell::Leaf(Leaf::Enum(enumeration, place)) => put_case(*enumeration, *place, form, pending, out),
+        Cell::Leaf(Leaf::Enum(enumeration, place)) => put_case(
+            *enumeration,
+            *place,
+            form,
+            pending,
+            out,
+        ),
         Cell::Leaf(leaf) => {
             let mut text = LeafBuf::new();
             write_leaf(*leaf, &mut text);
@@ -135,7 +156,12 @@ fn put_cell<K: Sink>(cell: &Cell, form: &InputForm, pending: &mut ArrayVec<u8, R
 }
 
 /// Puts a space and a cell.
-fn put_next<K: Sink>(cell: &Cell, form: &InputForm, pending: &mut ArrayVec<u8, ROOM>, out: &mut K) -> Result<(), Failed>
+fn put_next<K: Sink>(
+    cell: &Cell,
+    form: &InputForm,
+    pending: &mut ArrayVec<u8, ROOM>,
+    out: &mut K,
+) -> Result<(), Failed>
     requires { IsWritable form.now cell.now }
     ensures all { OnOk result (Begins (K.written out.old) (pending.old.items ++ 32 ∷ cell_text form.now cell.now) (K.written out.new) pending.new.items) }
     ensures front { OnErr result (WritesFront (K.written out.old) (pending.old.items ++ 32 ∷ cell_text form.now cell.now) (K.written out.new)) }
@@ -152,7 +178,12 @@ fn put_next<K: Sink>(cell: &Cell, form: &InputForm, pending: &mut ArrayVec<u8, R
 }
 
 /// Puts cells, each behind a space.
-fn put_rest<K: Sink>(cells: &[Cell], form: &InputForm, pending: &mut ArrayVec<u8, ROOM>, out: &mut K) -> Result<(), Failed>
+fn put_rest<K: Sink>(
+    cells: &[Cell],
+    form: &InputForm,
+    pending: &mut ArrayVec<u8, ROOM>,
+    out: &mut K,
+) -> Result<(), Failed>
     requires { All (IsWritable form.now) cells.now }
     ensures all { OnOk result (Begins (K.written out.old) (pending.old.items ++ rest_text form.now cells.now) (K.written out.new) pending.new.items) }
     ensures front { OnErr result (WritesFront (K.written out.old) (pending.old.items ++ rest_text form.now cells.now) (K.written out.new)) }
@@ -168,7 +199,12 @@ fn put_rest<K: Sink>(cells: &[Cell], form: &InputForm, pending: &mut ArrayVec<u8
 }
 
 /// Puts cells with a space between them.
-fn put_cells<K: Sink>(cells: &[Cell], form: &InputForm, pending: &mut ArrayVec<u8, ROOM>, out: &mut K) -> Result<(), Failed>
+fn put_cells<K: Sink>(
+    cells: &[Cell],
+    form: &InputForm,
+    pending: &mut ArrayVec<u8, ROOM>,
+    out: &mut K,
+) -> Result<(), Failed>
     requires { All (IsWritable form.now) cells.now }
     ensures all { OnOk result (Begins (K.written out.old) (pending.old.items ++ cells_text form.now cells.now) (K.written out.new) pending.new.items) }
     ensures front { OnErr result (WritesFront (K.written out.old) (pending.old.items ++ cells_text form.now cells.now) (K.written out.new)) }

@@ -1,4 +1,4 @@
-use Rattle.std.proofs.Common.{◌≡◌, arith, sym, get_or}
+use Rattle.std.proofs.Common.{arith, get_or}
 use Rattle.line_io.specs.declared.form.Cell.TheVariants.{Absent}
 use Rattle.line_io.proofs.CellLemmas.{cell_found}
 use Rattle.line_io.proofs.inputs.find_cells.Goals as goal

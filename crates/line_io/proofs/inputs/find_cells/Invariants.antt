@@ -1,4 +1,4 @@
-use Rattle.std.proofs.Common.{◌≡◌, ℕ, ◌<◌, get_or}
+use Rattle.std.proofs.Common.{ℕ, ◌<◌, get_or}
 use Rattle.line_io.specs.Cells.{CellAt}
 use Rattle.line_io.specs.declared.form.Cell.{Cell}
 use Rattle.line_io.proofs.inputs.find_cells.Given as goal

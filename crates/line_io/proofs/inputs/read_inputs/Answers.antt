@@ -1,4 +1,4 @@
-use Rattle.std.proofs.Common.{◌≡◌, ℕ, ◌+◌, ◌≤◌, List, length, arith, sym}
+use Rattle.std.proofs.Common.{arith}
 use Rattle.std.proofs.lemmas.Grind.{common_steps}
 use Rattle.line_io.proofs.CellLemmas.{bad_at, bad_past}
 use Rattle.line_io.proofs.inputs.read_inputs.Goals as goal
@@ -7,10 +7,10 @@ pub returns-in-Some-clause-bad : goal.returns-in-Some-clause-bad
 returns-in-Some-clause-bad c =
     let e = c.in-Some.ensures in
     bad_at c.args.form.now c.args.line.now c.as_slice-fields.result.now c.read_words-more.new.readings c.deref.result.now c.in-Some.bad
-      c.as_slice-fields.ensures.value (grind (arith, common_steps)) c.read_words-more.ensures.reads e.before e.here e.within
+    c.as_slice-fields.ensures.value (grind (arith, common_steps)) c.read_words-more.ensures.reads e.before e.here e.within
 
 pub returns-then-more-clause-bad : goal.returns-then-more-clause-bad
 returns-then-more-clause-bad c =
     let e = c.in_default.ensures in
     bad_past c.args.form.now c.args.line.now c.as_slice-fields.result.now c.read_words-more.new.readings c.deref.result.now c.find_cells.new.cells
-      c.as_slice-fields.ensures.value (grind (arith, common_steps)) c.read_words-more.ensures.reads e.all (grind (arith, common_steps)) (c.read_words-more.ensures.more.0 c.if-more.true)
+    c.as_slice-fields.ensures.value (grind (arith, common_steps)) c.read_words-more.ensures.reads e.all (grind (arith, common_steps)) (c.read_words-more.ensures.more.0 c.if-more.true)

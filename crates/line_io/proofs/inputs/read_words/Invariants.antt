@@ -1,6 +1,4 @@
-use Rattle.std.proofs.Common.{◌≡◌, ℕ, ◌<◌, ◌≤◌, length, drop}
-use Rattle.std.specs.Prelude.{slice_get, MatchOption}
-use Rattle.line_io.specs.Fields.{ReadsAs}
+use Rattle.std.proofs.Common.{◌≡◌, ◌≤◌, length, drop}
 use Rattle.line_io.specs.Words.{words_of}
 use Rattle.line_io.proofs.CellLemmas.{ReadUpTo}
 use Rattle.line_io.proofs.inputs.read_words.Given as goal

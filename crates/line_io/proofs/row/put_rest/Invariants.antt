@@ -1,4 +1,4 @@
-use Rattle.std.proofs.Common.{◌≡◌, ◌≤◌, ◌++◌, take}
+use Rattle.std.proofs.Common.{◌≤◌, ◌++◌, take}
 use Rattle.line_io.specs.Rows.{Begins, rest_text}
 use Rattle.line_io.proofs.row.put_rest.Given as goal
 

@@ -1,4 +1,4 @@
-use Rattle.std.proofs.Common.{◌≡◌, ℕ, ◌+◌, length, ◌∙◌, sym, subst, arith}
+use Rattle.std.proofs.Common.{◌+◌, sym, subst, arith}
 use Rattle.line_io.specs.declared.words.Place.{Place}
 use Rattle.line_io.proofs.WordLemmas.{Scanned, scan_first, scan_next, scan_stop, scan_end}
 use Rattle.line_io.proofs.words.word_len.Goals as goal
@@ -10,9 +10,9 @@ loop-i-init c =
 pub loop-i-preserved : goal.loop-i-preserved
 loop-i-preserved c =
     subst
-      (λ (p : Place). Scanned c.args.text.now (c.loop-i.i + 1) p)
-      (sym c.inside-place.ensures)
-      (scan_next c.args.text.now c.loop-i.i c.loop-i.place c.loop-i-test.true (sym c.if-ends.ensures) c.loop-i.invariant)
+    (λ (p : Place). Scanned c.args.text.now (c.loop-i.i + 1) p)
+    (sym c.inside-place.ensures)
+    (scan_next c.args.text.now c.loop-i.i c.loop-i.place c.loop-i-test.true (sym c.if-ends.ensures) c.loop-i.invariant)
 
 pub returns-then-ends-clause-word : goal.returns-then-ends-clause-word
 returns-then-ends-clause-word c = scan_stop c.args.text.now c.loop-i.i c.loop-i.place c.loop-i-test.true (sym c.if-ends.ensures) c.loop-i.invariant
