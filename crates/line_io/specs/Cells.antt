@@ -57,3 +57,7 @@ pub record IsBadField (form : InputForm) (line : List ℕ) (number : ℕ) : Type
   pub here : (at : ℕ) (cell : Cell) → at + 1 ≡ number → ¬ CellAt form.fields readings at cell
   pub there : (number ≤ length form.fields) ⊎ (number ≤ length (words_of line))
   pub counted : 0 < number
+
+-- cells fit a form where they are those of a line that it spells
+abbrev pub Fits : InputForm → List Cell → Type 0
+Fits form cells = (line : List ℕ) × IsLine form line cells

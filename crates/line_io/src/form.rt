@@ -1,5 +1,8 @@
-use ls_base::{List, Name, Names};
+ghost use Rattle.std.specs.Prelude.{◌≡◌, IfOk};
+
+use ls_base::{List, Name, Names, NoMemory, NoteCopy};
 use ls_value::{Leaf, Shape};
+use std::alloc::Global;
 
 /// What the lines of a node's inputs are made of: a field for each leaf of each parameter.
 #[derive(Drop)]
@@ -18,6 +21,36 @@ pub struct Field {
     pub on: List<(u32, Leaf)>,
     /// The number of the signal that it is a leaf of. Fields of one signal have one number.
     pub signal: Option<u32>,
+}
+
+fn copy_clock(on: &[(u32, Leaf)], alloc: Global) -> Result<List<(u32, Leaf)>, NoMemory>
+    ensures { IfOk result (λ copy. copy ≡ on.now) }
+{
+    let mut done = List::new(alloc);
+    for (at, leaf) in on {
+        done.push((*at, *leaf))?;
+    }
+    Ok(done)
+}
+
+impl NoteCopy for Field {
+    fn copy(&self, alloc: Global) -> Result<Field, NoMemory> {
+        Ok(Field {
+            shape: self.shape,
+            on: copy_clock(self.on.as_slice(), alloc)?,
+            signal: self.signal,
+        })
+    }
+}
+
+impl NoteCopy for InputForm {
+    fn copy(&self, alloc: Global) -> Result<InputForm, NoMemory> {
+        Ok(InputForm {
+            fields: self.fields.copy(alloc)?,
+            cases: self.cases.copy(alloc)?,
+            names: self.names.copy(alloc)?,
+        })
+    }
 }
 
 /// What a node takes or gives at one leaf in one instant.

@@ -1,4 +1,4 @@
-ghost use Rattle.std.specs.Prelude.{◌≡◌, ◌+◌, ◌<◌, ◌≤◌, ℕ, length, slice_get, IfOk, IfSome, IfNone, IfErr, OnOk, OnErr, drop, All, replicate, take, set, IsTrue, ◌↔◌, Some};
+ghost use Rattle.std.specs.Prelude.{◌≡◌, ◌+◌, ◌<◌, ◌≤◌, ℕ, List, length, slice_get, IfOk, IfSome, IfNone, IfErr, OnOk, OnErr, drop, All, replicate, take, set, IsTrue, ◌↔◌, Some};
 ghost use Rattle.line_io.specs.declared.form.Cell.{Cell};
 ghost use Rattle.line_io.specs.Cells.{IsLine, IsBadField, CellAt};
 ghost use Rattle.line_io.specs.Fields.{Reads, ReadsAs};
@@ -132,6 +132,7 @@ pub fn read_inputs(line: &[u8], form: &InputForm, into: &mut Inputs) -> Result<(
     requires { length into.old ≡ length form.now.fields }
     ensures spelled { OnOk result (IsLine form.now line.now into.new) }
     ensures bad { IfErr result (λ bad. IsBadField form.now line.now bad.0) }
+    ensures none { IfErr result (λ _. (cells : List Cell) → ¬ IsLine form.now line.now cells) }
     ensures kept { OnErr result (into.new ≡ into.old) }
 {
     let fields = form.fields.as_slice();
