@@ -7,7 +7,10 @@ mod list;
 mod memory;
 mod names;
 mod outside;
+mod real;
 mod steps;
+#[cfg(test)]
+mod tests;
 mod texts;
 mod write;
 
@@ -17,6 +20,7 @@ pub use list::List;
 pub use memory::{MemSink, MemSource};
 pub use names::Names;
 pub use outside::{Failed, LoadFault, Sink, Source, TEXT_LIMIT, Texts};
+pub use real::{FileTexts, InputSource, OutputSink};
 use std::alloc::AllocError;
 pub use steps::Steps;
 pub use texts::MemTexts;
