@@ -26,7 +26,7 @@ backslash quote c true cs e = absurd (true_is_not_false (sym e))
 backslash quote c false cs e = rw e refl
 
 -- a byte that is no `\` of its own
-no_backslash : (quote c : ℕ) (after : Bool) (cs : List ℕ) → (not after && (c == 92)) ≡ false
+pub no_backslash : (quote c : ℕ) (after : Bool) (cs : List ℕ) → (not after && (c == 92)) ≡ false
     → characters_after quote after (c ∷ cs) ≡ before (value_after quote after c) (characters_after quote false cs)
 no_backslash quote c true cs h = refl
 no_backslash quote c false cs h = rw h refl

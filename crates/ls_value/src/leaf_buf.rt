@@ -36,6 +36,22 @@ impl LeafBuf {
         self.bytes.as_slice()
     }
 
+    pub(crate) fn write(&mut self, leaf: &Leaf)
+        ensures { self.new ≡ code_of leaf.now }
+    {
+        self.clear();
+        match leaf {
+            Leaf::Nil => self.append(b"nil"),
+            Leaf::Int(value) => self.append(itoa::Buffer::new().format(*value).as_bytes()),
+            Leaf::Bool(true) => self.append(b"true"),
+            Leaf::Bool(false) => self.append(b"false"),
+            Leaf::Char(glyph) => self.write_quoted(b'\'', &[glyph.byte()]),
+            Leaf::Text(text) => self.write_quoted(b'"', text.bytes()),
+            Leaf::Enum(enumeration, place) => self.write_constructor(*enumeration, *place),
+            Leaf::Unit => self.append(b"()"),
+        }
+    }
+
     fn clear(&mut self)
         ensures { self.new ≡ [] }
     {
@@ -111,15 +127,5 @@ impl LeafBuf {
 pub fn write_leaf(leaf: Leaf, into: &mut LeafBuf)
     ensures spelled { into.new ≡ code_of leaf }
 {
-    into.clear();
-    match leaf {
-        Leaf::Nil => into.append(b"nil"),
-        Leaf::Int(value) => into.append(itoa::Buffer::new().format(value).as_bytes()),
-        Leaf::Bool(true) => into.append(b"true"),
-        Leaf::Bool(false) => into.append(b"false"),
-        Leaf::Char(glyph) => into.write_quoted(b'\'', &[glyph.byte()]),
-        Leaf::Text(text) => into.write_quoted(b'"', text.bytes()),
-        Leaf::Enum(enumeration, place) => into.write_constructor(enumeration, place),
-        Leaf::Unit => into.append(b"()"),
-    }
+    into.write(&leaf);
 }

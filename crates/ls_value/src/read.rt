@@ -1,4 +1,4 @@
-ghost use Rattle.std.specs.Prelude.{◌≡◌, ℕ, ◌<◌, ◌≢◌, IsTrue, List, [], ◌∷◌, ◌++◌, length, decimal, ◌^◌, SomeIff, IfSome, IfNone, MatchOption, Some, if◌then◌else◌, not, ◌&&◌, ◌==◌};
+ghost use Rattle.std.specs.Prelude.{◌≡◌, ℕ, ◌<◌, ◌≢◌, IsTrue, List, [], ◌∷◌, ◌++◌, length, SomeIff, IfSome, IfNone, MatchOption, Some, if◌then◌else◌, not, ◌&&◌, ◌==◌};
 ghost use Rattle.ls_value.specs.Reading.{IsIntText, int_value, characters_of, IsToken, escape_value, plain_value};
 ghost use Rattle.ls_value.specs.Character.{is_character};
 

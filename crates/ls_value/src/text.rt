@@ -1,4 +1,7 @@
-ghost use Rattle.std.specs.Prelude.{◌≡◌, ◌≤◌, ◌↔◌, length, IsSome, IfSome, IsTrue};
+ghost use Rattle.std.specs.Prelude.{◌≡◌, ◌≤◌, ◌↔◌, length, IsSome, IfSome, ◌==◌};
+ghost use Rattle.std.proofs.Common.{rules};
+ghost use Rattle.std.specs.Cmp.Rules.{comparing};
+ghost use Rattle.std.specs.Cmp.Lexicographic.{pointwise};
 ghost use Rattle.std.specs.List.{list_all};
 ghost use Rattle.ls_value.specs.Character.{IsText, AreCharacters, is_character};
 ghost use Rattle.ls_value.specs.TextBytes.{padded};
@@ -7,7 +10,7 @@ use crate::Glyph;
 use std::marker::Model;
 
 /// A string of at most 63 characters.
-#[derive(Clone, Copy, Debug, PartialEq, Eq)]
+#[derive(Clone, Copy, Debug)]
 pub struct Text {
     bytes: [u8; 63],
     len: u8,
@@ -25,6 +28,20 @@ impl Model for Text {
     ghost invariant = { IsPadded };
 
     ghost inverse = { λ v. record { bytes = padded v; len = length v } };
+}
+
+impl PartialEq for Text {
+    ghost eq = { pointwise ◌==◌ };
+
+    ghost laws = { Prim.search (comparing, rules) };
+
+    fn eq(&self, other: &Text) -> bool {
+        self.bytes() == other.bytes()
+    }
+}
+
+impl Eq for Text {
+    ghost laws = { Prim.search (comparing, rules) };
 }
 
 impl Text {
