@@ -9,7 +9,7 @@ use Rattle.std.specs.Option.{option_map}
 use Rattle.line_io.specs.Line.{NoNewline, part}
 
 -- dropping twice
-pub drop-drop : (n m : ℕ) (xs : List ℕ) → drop m (drop n xs) ≡ drop (n + m) xs
+pub drop-drop : {X : Type 0} (n m : ℕ) (xs : List X) → drop m (drop n xs) ≡ drop (n + m) xs
 drop-drop n m xs = grind (arith, common_steps)
 
 -- two parts side by side are one

@@ -1,1 +1,6 @@
+pub mod Cells
+pub mod Fields
 pub mod Line
+pub mod Places
+pub mod Rows
+pub mod Words

@@ -3,5 +3,16 @@
 #![tactic(auto)]
 
 mod buffer;
+mod cells;
+mod form;
+mod inputs;
+mod read;
+mod row;
+#[cfg(test)]
+mod tests;
+mod words;
 
 pub use buffer::{LineBuf, Next};
+pub use form::{Cell, Field, InputForm};
+pub use inputs::{BadField, Inputs, read_inputs};
+pub use row::{OutRow, write_row};
