@@ -4,18 +4,26 @@
 mod boxed;
 mod copy;
 mod list;
+mod memory;
 mod names;
 mod outside;
+mod real;
 mod steps;
+#[cfg(test)]
+mod tests;
+mod texts;
 mod write;
 
 pub use boxed::Boxed;
 pub use copy::NoteCopy;
 pub use list::List;
+pub use memory::{MemSink, MemSource};
 pub use names::Names;
 pub use outside::{Failed, LoadFault, Sink, Source, TEXT_LIMIT, Texts};
+pub use real::{FileTexts, InputSource, OutputSink};
 use std::alloc::AllocError;
 pub use steps::Steps;
+pub use texts::MemTexts;
 pub use write::write_all;
 
 /// The number of a line of a text, counted from 1.

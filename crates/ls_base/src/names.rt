@@ -14,7 +14,7 @@ const MOST: usize = 4_294_967_294;
 
 /// A set of spellings, each with its number in order of first appearance. Contracts see the list
 /// of the spellings' bytes.
-#[derive(Drop)]
+#[derive(Debug, Drop)]
 pub struct Names {
     set: IndexSet<String>,
 }
