@@ -196,7 +196,7 @@ pub enum DefOf<N> {
 }
 
 /// A file of definitions, in order, with the names that its trees number.
-#[derive(Drop)]
+#[derive(Debug, Drop)]
 pub struct FileOf<N> {
     pub defs: List<DefOf<N>>,
     pub names: Names,
