@@ -94,8 +94,8 @@ impl LineBuf {
         self.end - self.start
     }
 
-    /// Gives the first line of the bytes held, where they have a newline.
-    fn cut(&mut self) -> bool
+    /// Gives the next line where the bytes held have its newline, and reads nothing.
+    pub fn next_held(&mut self) -> bool
         ensures found { OnTrue result ((self.old.held ≡ self.new.line ++ 10 ∷ self.new.held) × NoNewline self.new.line × (length self.new.line ≤ 65536)) }
         ensures none { OnFalse result (NoNewline self.old.held × (self.new.held ≡ self.old.held) × (self.new.line ≡ [])) }
     {
@@ -169,7 +169,7 @@ impl LineBuf {
         ensures counted { S.count source.old ≤ S.count source.new }
     {
         loop {
-            if self.cut() {
+            if self.next_held() {
                 return Next::Line;
             }
             if self.held_len() == CAPACITY {

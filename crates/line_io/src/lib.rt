@@ -15,4 +15,4 @@ mod words;
 pub use buffer::{LineBuf, Next};
 pub use form::{Cell, Field, InputForm};
 pub use inputs::{BadField, Inputs, read_inputs};
-pub use row::{OutRow, write_row};
+pub use row::{OutRow, RowBuffer, write_row};

@@ -13,8 +13,8 @@ use ls_value::{Leaf, LeafBuf, write_leaf};
 use std::alloc::Global;
 use std::marker::Model;
 
-/// The bytes of a row that are held back, so that most rows are written at once.
-const ROOM: usize = 1_024;
+/// The bytes that are held back at most.
+const ROOM: usize = 4_096;
 
 /// The cells of a line of output.
 #[derive(Drop)]
@@ -223,8 +223,91 @@ fn put_cells<K: Sink>(
     }
 }
 
+/// Puts the cells of a row as a line.
+fn put_line<K: Sink>(
+    cells: &[Cell],
+    form: &InputForm,
+    pending: &mut ArrayVec<u8, ROOM>,
+    out: &mut K,
+) -> Result<(), Failed>
+    requires { All (IsWritable form.now) cells.now }
+    ensures all { OnOk result (Begins (K.written out.old) (pending.old.items ++ row_text form.now cells.now) (K.written out.new) pending.new.items) }
+    ensures front { OnErr result (WritesFront (K.written out.old) (pending.old.items ++ row_text form.now cells.now) (K.written out.new)) }
+    ensures failed { OnErr result (Rose (K.count out.old) (K.count out.new)) }
+    ensures counted { K.count out.old ≤ K.count out.new }
+{
+    if let Err(failed) = put_cells(cells, form, pending, out) {
+        return Err(failed);
+    }
+    match put(pending, b"\n", out) {
+        Ok(()) => Ok(()),
+        Err(failed) => Err(failed),
+    }
+}
+
+/// Rows that are held back, so that many of them are written at once. It takes no memory.
+#[derive(Drop)]
+pub struct RowBuffer {
+    pending: ArrayVec<u8, ROOM>,
+}
+
+impl Model for RowBuffer {
+    ghost use Rattle.std.specs.Prelude.{List, ℕ};
+
+    ghost Value = { List ℕ };
+
+    ghost view = { λ b. b.pending.items };
+}
+
+impl RowBuffer {
+    /// A buffer that holds nothing back.
+    pub fn new() -> RowBuffer
+        ensures { result ≡ [] }
+    {
+        RowBuffer {
+            pending: ArrayVec::new(),
+        }
+    }
+
+    /// Puts a row behind those that are held back: its cells joined by one space, and a newline. A
+    /// cell that is absent or not emitted is `.`, and a constructor is put by its name. Where
+    /// there is no room, what is held back is written first. After a fault a front of all that was
+    /// held back and of the row is written.
+    pub fn put_row<K: Sink>(
+        &mut self,
+        row: &OutRow,
+        form: &InputForm,
+        out: &mut K,
+    ) -> Result<(), Failed>
+        requires { All (IsWritable form.now) row.now }
+        ensures all { OnOk result (Begins (K.written out.old) (self.old ++ row_text form.now row.now) (K.written out.new) self.new) }
+        ensures front { OnErr result (WritesFront (K.written out.old) (self.old ++ row_text form.now row.now) (K.written out.new)) }
+        ensures failed { OnErr result (Rose (K.count out.old) (K.count out.new)) }
+        ensures counted { K.count out.old ≤ K.count out.new }
+    {
+        put_line(&row.cells, form, &mut self.pending, out)
+    }
+
+    /// Writes what is held back.
+    pub fn flush<K: Sink>(&mut self, out: &mut K) -> Result<(), Failed>
+        ensures empty { OnOk result (self.new ≡ []) }
+        ensures written { OnOk result (K.written out.new ≡ option_map (λ text. text ++ self.old) (K.written out.old)) }
+        ensures front { OnErr result (WritesFront (K.written out.old) self.old (K.written out.new)) }
+        ensures failed { OnErr result (Rose (K.count out.old) (K.count out.new)) }
+        ensures counted { K.count out.old ≤ K.count out.new }
+    {
+        match write_all(out, self.pending.as_slice()) {
+            Ok(()) => {
+                self.pending.clear();
+                Ok(())
+            }
+            Err(failed) => Err(failed),
+        }
+    }
+}
+
 /// Writes a row as a line: its cells joined by one space, and a newline. A cell that is absent or
-/// not emitted is `.`, and a constructor is written by its name. A row of at most 1,024 bytes is
+/// not emitted is `.`, and a constructor is written by its name. A row of at most 4,096 bytes is
 /// handed to the sink at once. After a fault a front of the line is written.
 pub fn write_row<K: Sink>(row: &OutRow, form: &InputForm, out: &mut K) -> Result<(), Failed>
     requires { All (IsWritable form.now) row.now }
@@ -233,14 +316,11 @@ pub fn write_row<K: Sink>(row: &OutRow, form: &InputForm, out: &mut K) -> Result
     ensures failed { OnErr result (Rose (K.count out.old) (K.count out.new)) }
     ensures counted { K.count out.old ≤ K.count out.new }
 {
-    let mut pending = ArrayVec::new();
-    if let Err(failed) = put_cells(&row.cells, form, &mut pending, out) {
+    let mut rows = RowBuffer::new();
+    if let Err(failed) = rows.put_row(row, form, out) {
         return Err(failed);
     }
-    if let Err(failed) = put(&mut pending, b"\n", out) {
-        return Err(failed);
-    }
-    match write_all(out, pending.as_slice()) {
+    match rows.flush(out) {
         Ok(()) => Ok(()),
         Err(failed) => Err(failed),
     }

@@ -1,7 +1,7 @@
 use Rattle.std.proofs.Common.{◌≡◌, ℕ, ◌+◌, ◌-◌, ◌<◌, List, length, arith, refl, sym, ◌∙◌, ap, subst}
 use Rattle.line_io.specs.Line.{NoNewline, part, Buffer}
 use Rattle.line_io.proofs.Parts.{quiet_join, part_cut, length-part, take_part, NewlineAt}
-use Rattle.line_io.proofs.buffer.LineBuf.cut.Goals as goal
+use Rattle.line_io.proofs.buffer.LineBuf.next_held.Goals as goal
 
 pub invariant_of-self-in-None : goal.invariant_of-self-in-None
 invariant_of-self-in-None c =
