@@ -9,7 +9,7 @@ use Rattle.std.specs.Str.Parse.{IsNumeral, AllDigits}
 use Rattle.std.proofs.lemmas.Bool.Decides.{nat_tests}
 use Rattle.std.proofs.lemmas.Grind.{common_steps}
 use Rattle.ls_value.specs.Reading.{digits_part, int_value, IsIntText}
-use Rattle.lsc_cli.specs.Bytes.{onto, without_blanks_behind, is_blank, is_digit, front, behind, int_of, is_int_text, fits_64}
+use Rattle.lsc_cli.specs.Bytes.{is_blank, is_digit, front, behind, int_of, is_int_text, fits_64}
 use Rattle.kahn_model.specs.declared.running_sum.RunningSum.{RunningSum}
 use Rattle.lsc_cli.specs.SumForm.{Header, SumEquation, number_at, header_at, equation_at, body_of, file_of, is_empty}
 use mir.Syntax.{w64}
@@ -92,28 +92,3 @@ file-unended bytes h e b ish ise isb goes_on = rw ish (rw ise (rw isb (rw goes_o
 pub not_empty : (bytes : List ℕ) → 1 ≤ length bytes → is_empty bytes ≡ false
 not_empty [] h = absurd (omega arith)
 not_empty (b ∷ bytes) h = refl
-
--- a blank at the end is let go
-pub without-blank : (xs : List ℕ) (b : ℕ) → is_blank b ≡ true → without_blanks_behind (xs ++ b ∷ []) ≡ without_blanks_behind xs
-without-blank [] b h = λ i. if h i then [] else (b ∷ [])
-without-blank (x ∷ xs) b h = ap (onto x) (without-blank xs b h)
-
-onto-some : (x : ℕ) (xs : List ℕ) (b : ℕ) → onto x (xs ++ b ∷ []) ≡ x ∷ (xs ++ b ∷ [])
-onto-some x [] b = refl
-onto-some x (y ∷ xs) b = refl
-
--- and any other byte at the end keeps what is before it
-pub without-other : (xs : List ℕ) (b : ℕ) → is_blank b ≡ false → without_blanks_behind (xs ++ b ∷ []) ≡ xs ++ b ∷ []
-without-other [] b h = λ i. if h i then [] else (b ∷ [])
-without-other (x ∷ xs) b h = ap (onto x) (without-other xs b h) ∙ onto-some x xs b
-
-last-split : (xs : List ℕ) → 1 ≤ length xs → take (length xs - 1) xs ++ get_or xs (length xs - 1) 0 ∷ [] ≡ xs
-last-split xs h =
-    sym (take-suc xs (length xs - 1) 0 (omega arith)) ∙ (λ k. take (let e : suc (length xs - 1) ≡ length xs = omega arith in e k) xs) ∙ take-length xs
-
-pub last-blank : (xs : List ℕ) → 1 ≤ length xs → is_blank (get_or xs (length xs - 1) 0) ≡ true → without_blanks_behind (take (length xs - 1) xs) ≡ without_blanks_behind xs
-last-blank xs some h = sym (without-blank (take (length xs - 1) xs) (get_or xs (length xs - 1) 0) h) ∙ ap without_blanks_behind (last-split xs some)
-
-pub last-other : (xs : List ℕ) → 1 ≤ length xs → is_blank (get_or xs (length xs - 1) 0) ≡ false → without_blanks_behind xs ≡ xs
-last-other xs some h =
-    ap without_blanks_behind (sym (last-split xs some)) ∙ without-other (take (length xs - 1) xs) (get_or xs (length xs - 1) 0) h ∙ last-split xs some

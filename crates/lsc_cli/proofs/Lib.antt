@@ -1,3 +1,3 @@
-pub mod ClosingLemmas
 pub mod FormLemmas
+pub mod IntLineLemmas
 pub mod RunLemmas

@@ -33,15 +33,6 @@ abbrev pub behind : (ℕ → Bool) → List ℕ → List ℕ
 behind test [] = []
 behind test (b ∷ bytes) = if test b then behind test bytes else (b ∷ bytes)
 
--- the bytes without the blanks at their end
-abbrev pub onto : ℕ → List ℕ → List ℕ
-onto b [] = if is_blank b then [] else (b ∷ [])
-onto b (c ∷ bytes) = b ∷ c ∷ bytes
-
-abbrev pub without_blanks_behind : List ℕ → List ℕ
-without_blanks_behind [] = []
-without_blanks_behind (b ∷ bytes) = onto b (without_blanks_behind bytes)
-
 -- the number is one of 64 bits
 abbrev pub fits_64 : ℤ → Bool
 fits_64 (pos n) = nat_lt n (2 ^ 63)

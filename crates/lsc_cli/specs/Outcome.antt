@@ -2,13 +2,12 @@
 use Rattle.std.specs.Prelude.{◌≡◌, ℕ, ℤ, Bool, true, false, List, [], ◌∷◌, ◌++◌, Option, Some, None, codes, length, nat_lt, decimal, if◌then◌else◌, ⊤, option_and_then}
 use Rattle.std.specs.Option.{option_map}
 use Rattle.std.specs.Str.{bytes_eq}
-use Rattle.std.specs.Fmt.{signed_decimal}
 use Rattle.kahn_model.specs.declared.running_sum.RunningSum.{RunningSum}
 use Rattle.kahn_model.specs.RunningSum.{network}
 use Rattle.kahn_model.specs.RunText.{Node, Run, Stop, AtEnd, AtMost, AtLongLine, AtBadLine, AtAlarm, run}
 use Rattle.ls_base.specs.Outside.{WritesFront}
 use Rattle.line_io.specs.Line.{lines_of}
-use Rattle.lsc_cli.specs.Bytes.{behind, is_blank, without_blanks_behind, int_of}
+use Rattle.lsc_cli.specs.IntLine.{input_of, row_text}
 use Rattle.lsc_cli.specs.SumForm.{SumFile, file_of}
 use Rattle.lsc_cli.specs.Words.{Command}
 use Rattle.lsc_cli.specs.declared.status.Status.{Status}
@@ -17,15 +16,6 @@ use Rattle.lsc_cli.specs.declared.status.Status.TheVariants.{Done, Refused, Usag
 pub record Outcome : Type 0 where
   pub status : Status
   pub text : List ℕ
-
--- a line has one field, an integer, and blanks at will around it
-abbrev pub input_of : List ℕ → Option ℤ
-input_of line = int_of (without_blanks_behind (behind is_blank line))
-
--- a row has one field, the integer
-abbrev pub row_text : Option ℤ → List ℕ
-row_text None = codes "\n"
-row_text (Some n) = signed_decimal n ++ codes "\n"
 
 -- the last instant of some inputs
 abbrev pub last_row : RunningSum → List ℤ → Option ℤ

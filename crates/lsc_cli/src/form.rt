@@ -40,27 +40,6 @@ fn split(class: Class, bytes: &[u8]) -> (&[u8], &[u8])
     (bytes, &bytes[bytes.len()..])
 }
 
-/// The bytes without the blanks at their two ends.
-pub fn without_blanks(bytes: &[u8]) -> &[u8]
-    ensures { result.now ≡ bytes_of.without_blanks_behind (bytes_of.behind bytes_of.is_blank bytes.now) }
-{
-    let (_, text) = split(Class::Blank, bytes);
-    without_blanks_behind(text)
-}
-
-fn without_blanks_behind(bytes: &[u8]) -> &[u8]
-    ensures { result.now ≡ bytes_of.without_blanks_behind bytes.now }
-{
-    let mut text = bytes;
-    while let [rest @ .., last] = text {
-        if !Class::Blank.has(*last) {
-            break;
-        }
-        text = rest;
-    }
-    text
-}
-
 /// The word after the blanks, and what follows it.
 #[tactic(auto, unfolding(crate::specs::SumForm::word_at))]
 fn word(bytes: &[u8]) -> Option<(&[u8], &[u8])>
