@@ -17,7 +17,8 @@ pub struct InputForm {
 #[derive(Drop)]
 pub struct Field {
     pub shape: Shape,
-    /// Its clock: the places of other fields, from 0, with the leaves that they must hold.
+    /// Its clock: the places of fields, from 0, with the leaves that they must hold in the same
+    /// line. A place past the last field holds none.
     pub on: List<(u32, Leaf)>,
     /// The number of the signal that it is a leaf of. Fields of one signal have one number.
     pub signal: Option<u32>,

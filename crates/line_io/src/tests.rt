@@ -6,7 +6,7 @@ ghost use Rattle.line_io.specs.declared.form.InputForm.{InputForm};
 use crate::{
     BadField, Cell, Field, InputForm, Inputs, LineBuf, Next, OutRow, read_inputs, write_row,
 };
-use ls_base::{Failed, List, MemSink, MemSource, Names, NoMemory, Sink, Source};
+use ls_base::{Failed, List, MemSink, MemSource, Names, NoMemory, NoteCopy, Sink, Source};
 use ls_value::{Glyph, Leaf, Shape};
 use std::alloc::Global;
 use std::test::Fail;
@@ -158,7 +158,7 @@ fn a_clock_tells_what_a_field_may_be(rt: HostRuntime) -> Result<(), Fail> {
     let alloc = rt.alloc();
     let clock = field(alloc, Shape::Bool, &[], None)?;
     let value = field(alloc, Shape::Int, &[(0, Leaf::Bool(true))], None)?;
-    let form = form(alloc, clock, value)?;
+    let form = form(alloc, clock, value)?.copy(alloc)?;
     for (line, want) in [
         ("true 4", "Some(Leaf(Bool(true))) Some(Leaf(Int(4)))"),
         ("false .", "Some(Leaf(Bool(false))) Some(Absent)"),
