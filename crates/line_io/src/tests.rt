@@ -248,11 +248,12 @@ fn a_row_is_written_as_a_line(rt: HostRuntime) -> Result<(), Fail> {
     let row = row_of(alloc, character)?;
     assert_eq!(rt; row.len(), 8);
     assert!(rt; matches!(row.get(2), Some(Cell::NotEmitted)));
-    let mut out = MemSink::new(alloc, 64, [0].to_vec(alloc)?)?;
-    assert_eq!(rt; write_row(&row, &form, &mut out), Err(Failed));
-    assert_eq!(rt; out.written(), b"".as_slice());
+    let mut out = MemSink::new(alloc, 64, [1].to_vec(alloc)?)?;
     assert_eq!(rt; write_row(&row, &form, &mut out), Ok(()));
-    assert_eq!(rt; out.written(), b"-3 . . '\\n' On () nil true\n".as_slice());
+    let line = b"-3 . . '\\n' On () nil true\n".as_slice();
+    assert_eq!(rt; out.written(), line);
+    assert_eq!(rt; write_row(&row, &form, &mut out), Err(Failed));
+    assert_eq!(rt; out.written(), line);
     let mut small = MemSink::new(alloc, 5, Vec::new(alloc))?;
     assert_eq!(rt; write_row(&row, &form, &mut small), Err(Failed));
     assert!(rt; b"-3 . ".as_slice().starts_with(small.written()));
