@@ -1,6 +1,7 @@
 -- A line has one row of cells at most, and none where it has a bad field.
 use Rattle.std.proofs.Common.{◌≡◌, ℕ, zero, suc, ◌-◌, ◌<◌, ◌≤◌, ◌⊎◌, inl, inr, Bool as Truth, true, false, List, [], ◌∷◌, Option, Some, None, length, get_or, refl, sym, ◌∙◌, ap, subst, arith}
-use Rattle.std.specs.Prelude.{slice_get, MatchOption, position}
+use Rattle.std.specs.Prelude.{slice_get, MatchOption, position, ◌↔◌}
+use Rattle.std.proofs.lemmas.Option.{slice_get_within}
 use Rattle.ls_base.specs.declared.Name.{Name}
 use Rattle.ls_value.specs.Spelling.{truth_code}
 use Rattle.ls_value.proofs.Tokens.{token_unique}
@@ -165,3 +166,36 @@ not_both form line cells number bad spelled =
     (get_none cells at (let e = spelled.all in let c = bad.counted in omega arith))
     (λ c. bad.here at c (let p = bad.counted in omega arith))
     (subst (λ (rs : List Reading). MatchOption (slice_get cells at) (Unit {0}) (λ cell. CellAt form.fields rs at cell)) same (spelled.each at))
+
+leaf_cell : (fields : List Field) (readings : List Reading) (field : Option Field) (reading : Option Reading) (cell : Option Cell) (leaf : Leaf) → (cell ≡ None → ⊥)
+    → MatchOption cell (Unit {0}) (λ c. MatchOption field ⊥ (λ f. MatchOption reading ⊥ (λ r. CellIs fields readings f r c)))
+    → reading ≡ Some (Holding leaf)
+    → cell ≡ Some (Given leaf)
+leaf_cell fields readings field reading None leaf some h e = absurd (some refl)
+leaf_cell fields readings None reading (Some c) leaf some h e = absurd h
+leaf_cell fields readings (Some f) None (Some c) leaf some h e = absurd h
+leaf_cell fields readings (Some f) (Some r) (Some Absent) leaf some h e = let d = h.1 in cc
+leaf_cell fields readings (Some f) (Some r) (Some NotEmitted) leaf some h e = let d = h.2 in cc
+leaf_cell fields readings (Some f) (Some r) (Some (Given l)) leaf some h e = let d = h.2 in cc
+
+cell_leaf : (fields : List Field) (readings : List Reading) (field : Option Field) (reading : Option Reading) (cell : Option Cell) (leaf : Leaf)
+    → MatchOption cell (Unit {0}) (λ c. MatchOption field ⊥ (λ f. MatchOption reading ⊥ (λ r. CellIs fields readings f r c)))
+    → cell ≡ Some (Given leaf)
+    → reading ≡ Some (Holding leaf)
+cell_leaf fields readings field reading None leaf h e = absurd (cc)
+cell_leaf fields readings None reading (Some c) leaf h e = absurd h
+cell_leaf fields readings (Some f) None (Some c) leaf h e = absurd h
+cell_leaf fields readings (Some f) (Some r) (Some Absent) leaf h e = absurd (cc)
+cell_leaf fields readings (Some f) (Some r) (Some NotEmitted) leaf h e = absurd (cc)
+cell_leaf fields readings (Some f) (Some r) (Some (Given l)) leaf h e = let d = h.2 in cc
+
+-- in a line that is spelled, a field holds a leaf where its cell does
+pub holds_leaf : (form : InputForm) (line : List ℕ) (cells : List Cell) (spelled : IsLine form line cells) (at : ℕ) (leaf : Leaf)
+    → (slice_get spelled.readings at ≡ Some (Holding leaf)) ↔ (slice_get cells at ≡ Some (Given leaf))
+holds_leaf form line cells spelled at leaf = (
+  λ e.
+      let lt = slice_get_within spelled.readings at (Holding leaf) e in
+      leaf_cell form.fields spelled.readings (slice_get form.fields at) (slice_get spelled.readings at) (slice_get cells at) leaf
+      (get_none cells at (let a = spelled.all in let b = spelled.reads.all in omega arith)) (spelled.each at) e,
+  λ e. cell_leaf form.fields spelled.readings (slice_get form.fields at) (slice_get spelled.readings at) (slice_get cells at) leaf (spelled.each at) e,
+)

@@ -10,7 +10,9 @@ use Rattle.line_io.specs.declared.form.Reading.TheVariants.{Dot, Leaf as Holding
 use Rattle.line_io.specs.Fields.{Reads}
 use Rattle.line_io.specs.Words.{words_of}
 
--- a clock is on where each field that it asks for holds the leaf that it asks
+-- a clock is on where each field that it asks for holds the leaf that it asks. It asks only what the words of these
+-- fields spell, and not whether their own clocks are on, so it may ask a later field, or itself, and no order matters:
+-- a field that is `.`, missing or no spelling holds no leaf
 abbrev pub IsOn : List Reading → List (ℕ × Leaf) → Type 0
 IsOn readings on = All (λ asked. slice_get readings asked.0 ≡ Some (Holding asked.1)) on
 

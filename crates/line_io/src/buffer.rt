@@ -80,7 +80,7 @@ impl LineBuf {
         })
     }
 
-    /// The line that was given last, without its newline.
+    /// The line that was given last, without its newline. It is empty after any other answer.
     pub fn line(&self) -> &[u8]
         ensures { result.now ≡ self.now.line }
     {
@@ -151,6 +151,9 @@ impl LineBuf {
 
     /// Finds the next line of the bytes held and those that the source gives after them. It reads
     /// only while it holds no whole line, and takes no memory.
+    ///
+    /// After `LongLine` and `ReadFault` the bytes taken are still held: the next call answers
+    /// `LongLine` again, or goes on to read.
     pub fn next_line<S: Source>(&mut self, source: &mut S) -> Next
         ensures line { OnLine result (IfSome (ahead self.old.held (S.left source.old)) (λ bytes. (0 < length bytes) × (self.new.line ≡ line_of bytes))) }
         ensures rest { OnLine result (ahead self.new.held (S.left source.new) ≡ option_map rest_of (ahead self.old.held (S.left source.old))) }

@@ -5,7 +5,7 @@ use ls_value::{Leaf, Shape};
 use std::alloc::Global;
 
 /// What the lines of a node's inputs are made of: a field for each leaf of each parameter.
-#[derive(Drop)]
+#[derive(Debug, Drop)]
 pub struct InputForm {
     pub fields: List<Field>,
     /// The constructors of each enumeration, in order.
@@ -14,10 +14,11 @@ pub struct InputForm {
 }
 
 /// A field of a line.
-#[derive(Drop)]
+#[derive(Debug, Drop)]
 pub struct Field {
     pub shape: Shape,
-    /// Its clock: the places of other fields, from 0, with the leaves that they must hold.
+    /// Its clock: the places of fields, from 0, with the leaves that they must hold in the same
+    /// line. A place past the last field holds none.
     pub on: List<(u32, Leaf)>,
     /// The number of the signal that it is a leaf of. Fields of one signal have one number.
     pub signal: Option<u32>,
@@ -63,8 +64,14 @@ pub enum Cell {
     Leaf(Leaf),
 }
 
+impl NoteCopy for Cell {
+    fn copy(&self, _alloc: Global) -> Result<Cell, NoMemory> {
+        Ok(*self)
+    }
+}
+
 /// What a field of a line reads as.
-#[derive(Clone, Copy)]
+#[derive(Clone, Copy, Debug)]
 pub(crate) enum Reading {
     /// It is `.`.
     Dot,

@@ -19,7 +19,7 @@ use std::marker::Model;
 pub struct BadField(pub u32);
 
 /// The cells of a line of input, one for each field of its form.
-#[derive(Drop)]
+#[derive(Debug, Drop)]
 pub struct Inputs {
     cells: Vec<Cell>,
     next: Vec<Cell>,

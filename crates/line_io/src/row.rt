@@ -17,7 +17,7 @@ use std::marker::Model;
 const ROOM: usize = 4_096;
 
 /// The cells of a line of output.
-#[derive(Drop)]
+#[derive(Debug, Drop)]
 pub struct OutRow {
     cells: Vec<Cell>,
 }

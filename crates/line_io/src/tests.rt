@@ -6,7 +6,7 @@ ghost use Rattle.line_io.specs.declared.form.InputForm.{InputForm};
 use crate::{
     BadField, Cell, Field, InputForm, Inputs, LineBuf, Next, OutRow, read_inputs, write_row,
 };
-use ls_base::{Failed, List, MemSink, MemSource, Names, NoMemory, Sink, Source};
+use ls_base::{Failed, List, MemSink, MemSource, Names, NoMemory, NoteCopy, Sink, Source};
 use ls_value::{Glyph, Leaf, Shape};
 use std::alloc::Global;
 use std::test::Fail;
@@ -158,7 +158,7 @@ fn a_clock_tells_what_a_field_may_be(rt: HostRuntime) -> Result<(), Fail> {
     let alloc = rt.alloc();
     let clock = field(alloc, Shape::Bool, &[], None)?;
     let value = field(alloc, Shape::Int, &[(0, Leaf::Bool(true))], None)?;
-    let form = form(alloc, clock, value)?;
+    let form = form(alloc, clock, value)?.copy(alloc)?;
     for (line, want) in [
         ("true 4", "Some(Leaf(Bool(true))) Some(Leaf(Int(4)))"),
         ("false .", "Some(Leaf(Bool(false))) Some(Absent)"),
@@ -248,11 +248,12 @@ fn a_row_is_written_as_a_line(rt: HostRuntime) -> Result<(), Fail> {
     let row = row_of(alloc, character)?;
     assert_eq!(rt; row.len(), 8);
     assert!(rt; matches!(row.get(2), Some(Cell::NotEmitted)));
-    let mut out = MemSink::new(alloc, 64, [0].to_vec(alloc)?)?;
-    assert_eq!(rt; write_row(&row, &form, &mut out), Err(Failed));
-    assert_eq!(rt; out.written(), b"".as_slice());
+    let mut out = MemSink::new(alloc, 64, [1].to_vec(alloc)?)?;
     assert_eq!(rt; write_row(&row, &form, &mut out), Ok(()));
-    assert_eq!(rt; out.written(), b"-3 . . '\\n' On () nil true\n".as_slice());
+    let line = b"-3 . . '\\n' On () nil true\n".as_slice();
+    assert_eq!(rt; out.written(), line);
+    assert_eq!(rt; write_row(&row, &form, &mut out), Err(Failed));
+    assert_eq!(rt; out.written(), line);
     let mut small = MemSink::new(alloc, 5, Vec::new(alloc))?;
     assert_eq!(rt; write_row(&row, &form, &mut small), Err(Failed));
     assert!(rt; b"-3 . ".as_slice().starts_with(small.written()));
