@@ -1,12 +1,12 @@
 -- The table of a running sum, as data and turn by turn.
-use Rattle.std.proofs.Common.{◌≡◌, ℕ, zero, suc, ◌+◌, ◌<◌, ◌≤◌, List, [], ◌∷◌, ◌⊎◌, inl, inr, Option, Some, None, length, get_or, map, take, refl, sym, ◌∙◌, ap, arith}
-use Rattle.std.specs.Prelude.{ℤ, slice_get, replicate, option_and_then}
+use Rattle.std.proofs.Common.{◌≡◌, ℕ, zero, suc, ◌<◌, ◌≤◌, List, [], ◌∷◌, ◌⊎◌, inl, inr, Option, Some, None, length, get_or, map, refl, sym, ◌∙◌, ap, arith}
+use Rattle.std.specs.Prelude.{ℤ, replicate, option_and_then}
 use Rattle.std.specs.Option.{option_map}
 use Rattle.std.specs.Int.{int_wrapping_add, w64}
 use Rattle.std.proofs.lemmas.Option.{slice_get_past}
-use Rattle.std.proofs.lemmas.List.{get_or_past, take_all}
+use Rattle.std.proofs.lemmas.List.{get_or_past}
 use Rattle.kahn_model.specs.declared.running_sum.RunningSum.{RunningSum}
-use Rattle.kahn_model.specs.RunningSum.{Row, given, row_in, turn, after, plus, fby, row_of}
+use Rattle.kahn_model.specs.RunningSum.{Row, given, row_in, turn, fby, row_of}
 
 known_at : (xs : List ℤ) (i : ℕ) → row_in (map Some xs) i ≡ given xs i
 known_at [] i = refl

@@ -1,13 +1,11 @@
 -- Numbers in the file and in the input.
-use Rattle.std.proofs.Common.{◌≡◌, ℕ, ◌<◌, ◌≤◌, ◌^◌, List, [], ◌∷◌, ◌++◌, ◌-◌, suc, Option, Some, None, Bool, true, false, length, get_or, take, refl, sym, ◌∙◌, ap, subst, arith, rules}
-use Rattle.std.specs.Prelude.{ℤ, pos, negsuc, nat_le, nat_lt, IsTrue, FitsSigned, ◌&&◌, if◌then◌else◌}
-use Rattle.std.proofs.Math.Seq.{take-suc, take-length}
+use Rattle.std.proofs.Common.{◌≡◌, ℕ, ◌<◌, ◌≤◌, ◌^◌, List, [], ◌∷◌, Option, Some, None, Bool, true, false, length, refl, sym, ◌∙◌, ap, arith}
+use Rattle.std.specs.Prelude.{ℤ, pos, negsuc, nat_le, nat_lt, FitsSigned, ◌&&◌, if◌then◌else◌}
 use Rattle.std.specs.Option.{option_map, SomeIff}
 use Rattle.std.specs.Char.{digit_value, is_digit as is_in_base}
 use Rattle.std.specs.List.{list_all}
-use Rattle.std.specs.Str.Parse.{IsNumeral, AllDigits}
+use Rattle.std.specs.Str.Parse.{AllDigits}
 use Rattle.std.proofs.lemmas.Bool.Decides.{nat_tests}
-use Rattle.std.proofs.lemmas.Grind.{common_steps}
 use Rattle.ls_value.specs.Reading.{digits_part, int_value, IsIntText}
 use Rattle.lsc_cli.specs.Bytes.{is_blank, is_digit, front, behind, int_of, is_int_text, fits_64}
 use Rattle.kahn_model.specs.declared.running_sum.RunningSum.{RunningSum}

@@ -1,6 +1,6 @@
 -- What it is to be a line of one integer, and not to be one.
-use Rattle.std.proofs.Common.{◌≡◌, ◌≢◌, ℕ, zero, suc, ◌+◌, ◌<◌, ◌≤◌, List, [], ◌∷◌, Option, Some, None, Bool, true, false, length, refl, sym, ◌∙◌, ap, subst, arith, inl, inr, ◌⊎◌, set}
-use Rattle.std.specs.Prelude.{ℤ, slice_get, MatchOption, All, IsTrue, if◌then◌else◌, FitsSigned}
+use Rattle.std.proofs.Common.{◌≡◌, ◌≢◌, ℕ, ◌+◌, ◌<◌, ◌≤◌, List, [], ◌∷◌, Option, Some, None, Bool, true, false, length, refl, sym, ◌∙◌, ap, subst, arith, inl, inr, ◌⊎◌, set}
+use Rattle.std.specs.Prelude.{ℤ, slice_get, MatchOption, if◌then◌else◌, FitsSigned}
 use mir.Syntax.{w64}
 use Rattle.ls_value.specs.Reading.{IsIntText, int_value}
 use Rattle.ls_value.specs.declared.leaf.Leaf.{Leaf}
@@ -11,7 +11,7 @@ use Rattle.line_io.specs.declared.form.Cell.TheVariants as cells
 use Rattle.line_io.specs.declared.form.Reading.{Reading}
 use Rattle.line_io.specs.declared.form.Reading.TheVariants as readings
 use Rattle.line_io.specs.Cells.{IsLine, IsBadField, CellAt, CellIs, IsOn}
-use Rattle.line_io.specs.Fields.{Reads, ReadsAs, Spells}
+use Rattle.line_io.specs.Fields.{ReadsAs, Spells}
 use Rattle.line_io.specs.Words.{words_of}
 use Rattle.lsc_cli.specs.Bytes.{int_of, is_int_text}
 use Rattle.lsc_cli.specs.IntLine.{int_form, int_field, int_in, input_of, only_int}

@@ -1,3 +1,4 @@
+pub mod ClosingLemmas
 pub mod FormLemmas
 pub mod IntLineLemmas
 pub mod RunLemmas

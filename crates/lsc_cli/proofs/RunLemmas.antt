@@ -1,5 +1,5 @@
 -- What has been answered after some lines of a run, and how one more line adds to it.
-use Rattle.std.proofs.Common.{◌≡◌, ◌≢◌, ℕ, zero, suc, ◌+◌, ◌-◌, ◌<◌, ◌≤◌, List, [], ◌∷◌, ◌++◌, Option, Some, None, Bool, true, false, cond, length, take, refl, sym, ◌∙◌, ap, subst, arith, append_assoc, length-append, ◌⊎◌, inl, inr}
+use Rattle.std.proofs.Common.{◌≡◌, ◌≢◌, ℕ, suc, ◌+◌, ◌-◌, ◌<◌, ◌≤◌, List, [], ◌∷◌, ◌++◌, Option, Some, None, Bool, true, false, length, take, refl, sym, ◌∙◌, ap, subst, arith, append_assoc, length-append, ◌⊎◌, inl, inr}
 use Rattle.std.specs.Prelude.{ℤ, nat_lt, if◌then◌else◌, ⊤, ◌==◌}
 use Rattle.std.specs.List.{AllByRecursion}
 use Rattle.std.specs.Option.{option_map, IfSome}
@@ -10,7 +10,7 @@ use Rattle.std.proofs.Math.Seq.{take-append-add}
 use Rattle.ls_base.specs.Outside.{WritesFront}
 use Rattle.kahn_model.specs.declared.running_sum.RunningSum.{RunningSum}
 use Rattle.kahn_model.specs.RunningSum.{network, Remembers}
-use Rattle.kahn_model.specs.RunText.{Node, Run, Stop, AtEnd, AtMost, AtLongLine, AtBadLine, with_row, stopped, run, run_from, spelled, answered, line_limit}
+use Rattle.kahn_model.specs.RunText.{Run, Stop, AtEnd, AtMost, AtLongLine, AtBadLine, with_row, stopped, run, run_from, spelled, line_limit}
 use Rattle.line_io.specs.Line.{NoNewline, lines_of, line_of, rest_of, ahead}
 use Rattle.line_io.specs.Rows.{Begins}
 use Rattle.line_io.proofs.LineLemmas.{lines_of-split, length-line_of-front, line_of-cut, rest_of-cut}
@@ -18,7 +18,7 @@ use Rattle.step_runner.specs.declared.machine.Machine.{Machine}
 use Rattle.lsc_cli.specs.declared.exchange.Exchange.{Exchange}
 use Rattle.lsc_cli.specs.declared.lines.DriveEnd.{DriveEnd}
 use Rattle.lsc_cli.specs.declared.lines.DriveEnd.TheVariants.{WriteFault}
-use Rattle.lsc_cli.specs.Drive.{Answers, Begun, AreWhole, IsOver, IsBegun, IsRead, ReadSoFar, stop_of}
+use Rattle.lsc_cli.specs.Drive.{Answers, Begun, AreWhole, IsOver, IsBegun, IsRead, stop_of}
 use Rattle.lsc_cli.specs.IntLine.{input_of, row_text}
 use Rattle.lsc_cli.specs.Outcome.{last_row, node_of}
 
@@ -95,13 +95,13 @@ one_more done rest w some (inl h) = record {
   bytes = done ++ (line_of rest ++ 10 ∷ []);
   taken = ap (λ zs. done ++ zs) (h ∙ sym (append_assoc (line_of rest) (10 ∷ []) (rest_of rest))) ∙ sym (append_assoc done (line_of rest ++ 10 ∷ []) (rest_of rest));
   whole = inl (all_whole done (line_of rest) w (no_newline rest));
-  lines = still_whole done (line_of rest) w (no_newline rest)
+  lines = still_whole done (line_of rest) w (no_newline rest);
 }
 one_more done rest w some (inr h) = record {
   bytes = done ++ rest;
   taken = sym (append-nil (done ++ rest)) ∙ ap (λ zs. (done ++ rest) ++ zs) (sym h.1);
   whole = inr h.1;
-  lines = w rest ∙ ap (λ zs. lines_of done ++ zs) (split_lines rest some ∙ ap (λ zs. line_of rest ∷ lines_of zs) h.1)
+  lines = w rest ∙ ap (λ zs. lines_of done ++ zs) (split_lines rest some ∙ ap (λ zs. line_of rest ∷ lines_of zs) h.1);
 }
 
 regrouped : (texts row : List ℕ) (run : Run) → with_row texts (with_row row run) ≡ with_row (texts ++ row) run
@@ -168,8 +168,10 @@ nothing_begun (Some text) = ([], ap Some (sym (append-nil text)), refl)
 
 none_done : (body : RunningSum) (bytes : List ℕ) → Done body 0 [] [] bytes bytes
 none_done body bytes = record {
-  lines = []; taken = refl; whole = inl (λ rest. refl);
-  runs = λ next m. ap (λ n. run_from (node_of body) next n []) (let e : 0 + m ≡ m = omega arith in e)
+  lines = [];
+  taken = refl;
+  whole = inl (λ rest. refl);
+  runs = λ next m. ap (λ n. run_from (node_of body) next n []) (let e : 0 + m ≡ m = omega arith in e);
 }
 
 none_follows : (body : RunningSum) (first : Option (List ℕ)) → Follows body 0 [] [] first first
@@ -180,9 +182,12 @@ none_follows body (Some bytes) = none_done body bytes
 pub answered-none : (body : RunningSum) (first old : Option (List ℕ)) (pending : List ℕ) (memory : ℤ) → Remembers body [] memory → pending ≡ []
     → Answered body 0 first first old old pending memory
 answered-none body first old pending memory remembered none = record {
-  before = []; texts = []; counted = refl; remembers = remembered;
+  before = [];
+  texts = [];
+  counted = refl;
+  remembers = remembered;
   begun = subst (Begins old [] old) (sym none) (nothing_begun old);
-  follows = none_follows body first
+  follows = none_follows body first;
 }
 
 still_lines : (done line : List ℕ) (bytes : List ℕ) (next : List (List ℕ)) → lines_of bytes ≡ lines_of done ++ line ∷ [] → lines_of bytes ++ next ≡ lines_of done ++ (line ∷ next)
@@ -208,7 +213,7 @@ done_row body count before texts bytes rest x value d some short is row w = reco
       (λ i. run_from (node_of body) (still_lines d.lines (line_of rest) w.bytes next w.lines i) (let e : count + 1 + m ≡ count + suc m = omega arith in e i) [])
       ∙ d.runs (line_of rest ∷ next) (suc m)
       ∙ ap (with_row texts) (at_row body (line_of rest) next m before x value short is row)
-      ∙ regrouped texts (row_text (Some value)) (run_from (node_of body) next m (before ++ x ∷ []))
+      ∙ regrouped texts (row_text (Some value)) (run_from (node_of body) next m (before ++ x ∷ []));
 }
 
 follows_row : (body : RunningSum) (count : ℕ) (before : List ℤ) (texts line : List ℕ) (x value : ℤ) (first now next : Option (List ℕ))
@@ -219,8 +224,8 @@ follows_row body count before texts line x value None now next f split short goe
 follows_row body count before texts line x value (Some bytes) None next f split short goes_on is row = absurd f
 follows_row body count before texts line x value (Some bytes) (Some rest) next f split short goes_on is row =
     subst (Follows body (count + 1) (before ++ x ∷ []) (texts ++ row_text (Some value)) (Some bytes)) (sym goes_on)
-        (done_row body count before texts bytes rest x value f split.0 (subst (λ l. length l ≤ 65536) split.1 short) (ap input_of (sym split.1) ∙ is) row
-            (one_more f.lines rest (rest_not_empty rest (AreWhole f.lines) split.0 f.whole) split.0 (parts rest)))
+    (done_row body count before texts bytes rest x value f split.0 (subst (λ l. length l ≤ 65536) split.1 short) (ap input_of (sym split.1) ∙ is) row
+    (one_more f.lines rest (rest_not_empty rest (AreWhole f.lines) split.0 f.whole) split.0 (parts rest)))
 
 pub two_texts : (old : Option (List ℕ)) (a b : List ℕ) → option_map (λ text. text ++ b) (option_map (λ text. text ++ a) old) ≡ option_map (λ text. text ++ (a ++ b)) old
 two_texts None a b = refl
@@ -231,14 +236,14 @@ begins_more : (old mid new : Option (List ℕ)) (text piece pending held : List 
 begins_more old mid new text piece pending held s t = (
   s.0 ++ t.0,
   t.1 ∙ ap (option_map (λ zs. zs ++ t.0)) s.1 ∙ two_texts old s.0 t.0,
-  append_assoc s.0 t.0 held ∙ ap (λ zs. s.0 ++ zs) t.2 ∙ sym (append_assoc s.0 pending piece) ∙ ap (λ zs. zs ++ piece) s.2
+  append_assoc s.0 t.0 held ∙ ap (λ zs. s.0 ++ zs) t.2 ∙ sym (append_assoc s.0 pending piece) ∙ ap (λ zs. zs ++ piece) s.2,
 )
 
 begins_on : (old mid new : Option (List ℕ)) (text pending held : List ℕ) → Begins old text mid pending → Begins mid pending new held → Begins old text new held
 begins_on old mid new text pending held s t = (
   s.0 ++ t.0,
   t.1 ∙ ap (option_map (λ zs. zs ++ t.0)) s.1 ∙ two_texts old s.0 t.0,
-  append_assoc s.0 t.0 held ∙ ap (λ zs. s.0 ++ zs) t.2 ∙ s.2
+  append_assoc s.0 t.0 held ∙ ap (λ zs. s.0 ++ zs) t.2 ∙ s.2,
 )
 
 begins_all : (old mid new : Option (List ℕ)) (text pending : List ℕ) → Begins old text mid pending → new ≡ option_map (λ zs. zs ++ pending) mid → new ≡ option_map (λ zs. zs ++ text) old
@@ -250,16 +255,18 @@ pub front_more : (texts row more : List ℕ) (old written new : Option (List ℕ
     → WritesFront written row new → WritesFront old (texts ++ (row ++ more)) new
 front_more texts row more old written new is (n, within, added) =
     let cut : take (length texts + n) (texts ++ (row ++ more)) ≡ texts ++ take n row =
-        take-append-add texts (row ++ more) n ∙ ap (λ zs. texts ++ zs) (take-append-le n row more within) in
-    (length texts + n, omega (arith, length-append texts (row ++ more), length-append row more, within),
-     added ∙ ap (option_map (λ text. text ++ take n row)) is ∙ two_texts old texts (take n row) ∙ (λ i. option_map (λ text. text ++ sym cut i) old))
+    take-append-add texts (row ++ more) n ∙ ap (λ zs. texts ++ zs) (take-append-le n row more within) in (
+      length texts + n,
+      omega (arith, length-append texts (row ++ more), length-append row more, within),
+      added ∙ ap (option_map (λ text. text ++ take n row)) is ∙ two_texts old texts (take n row) ∙ (λ i. option_map (λ text. text ++ sym cut i) old),
+    )
 
 -- a front of what was held back and of a row
 begins_front : (old mid new : Option (List ℕ)) (text row more pending : List ℕ) → Begins old text mid pending → WritesFront mid (pending ++ row) new → WritesFront old (text ++ (row ++ more)) new
 begins_front old mid new text row more pending s front =
     subst (λ zs. WritesFront old zs new)
-        (ap (λ zs. s.0 ++ zs) (append_assoc pending row more) ∙ sym (append_assoc s.0 pending (row ++ more)) ∙ ap (λ zs. zs ++ (row ++ more)) s.2)
-        (front_more s.0 (pending ++ row) more old mid new s.1 front)
+    (ap (λ zs. s.0 ++ zs) (append_assoc pending row more) ∙ sym (append_assoc s.0 pending (row ++ more)) ∙ ap (λ zs. zs ++ (row ++ more)) s.2)
+    (front_more s.0 (pending ++ row) more old mid new s.1 front)
 
 module _ (body : RunningSum) (count : ℕ) (first now old mid : Option (List ℕ)) (pending : List ℕ) (memory : ℤ) (a : Answered body count first now old mid pending memory) where
   -- one more line has been answered
@@ -276,7 +283,7 @@ module _ (body : RunningSum) (count : ℕ) (first now old mid : Option (List ℕ
     counted = omega (arith, length-append a.before (x ∷ []), a.counted);
     remembers = remembers a.before a.remembers;
     begun = begins_more old found new a.texts (row_text (Some value)) kept held (begins_on old mid found a.texts pending kept a.begun flushed) added;
-    follows = follows_row body count a.before a.texts line x value first now next a.follows split short goes_on is (cell a.before a.remembers)
+    follows = follows_row body count a.before a.texts line x value first now next a.follows split short goes_on is (cell a.before a.remembers);
   }
 
   some_of : (now : Option (List ℕ)) (P : List ℕ → Type 0) (rest : List ℕ) → IfSome now P → now ≡ Some rest → P rest
@@ -314,10 +321,10 @@ module _ (body : RunningSum) (count : ℕ) (first now old mid : Option (List ℕ
       → new ≡ option_map (λ text. text ++ pending) mid → IsOver body most first (AtBadLine (count + 1)) old new
   over-bad most new line h split short is written = over most (suc (most - (count + 1))) (AtBadLine (count + 1)) new (omega arith) first now a.follows
       (λ rest e.
-          let s = some_of now (λ bytes. (0 < length bytes) × (line ≡ line_of bytes)) rest split e in
-          ap (λ zs. run_from (node_of body) zs (suc (most - (count + 1))) a.before) (split_lines rest s.0)
-          ∙ at_bad body (line_of rest) (lines_of (rest_of rest)) (most - (count + 1)) a.before (subst (λ l. length l ≤ 65536) s.1 short) (ap input_of (sym s.1) ∙ is)
-          ∙ (λ i. stopped (AtBadLine (a.counted i + 1)))) written
+      let s = some_of now (λ bytes. (0 < length bytes) × (line ≡ line_of bytes)) rest split e in
+      ap (λ zs. run_from (node_of body) zs (suc (most - (count + 1))) a.before) (split_lines rest s.0)
+      ∙ at_bad body (line_of rest) (lines_of (rest_of rest)) (most - (count + 1)) a.before (subst (λ l. length l ≤ 65536) s.1 short) (ap input_of (sym s.1) ∙ is)
+      ∙ (λ i. stopped (AtBadLine (a.counted i + 1)))) written
 
   long_some : (rest : List ℕ) → 65536 < length (line_of rest) → 0 < length rest
   long_some [] s = absurd (omega arith)
@@ -326,9 +333,9 @@ module _ (body : RunningSum) (count : ℕ) (first now old mid : Option (List ℕ
   pub over-long : (most : ℕ) (new : Option (List ℕ)) → count < most → IfSome now (λ bytes. 65536 < length (line_of bytes)) → new ≡ option_map (λ text. text ++ pending) mid → IsOver body most first AtLongLine old new
   over-long most new h long written = over most (suc (most - (count + 1))) AtLongLine new (omega arith) first now a.follows
       (λ rest e.
-          let s = some_of now (λ bytes. 65536 < length (line_of bytes)) rest long e in
-          ap (λ zs. run_from (node_of body) zs (suc (most - (count + 1))) a.before) (split_lines rest (long_some rest s))
-          ∙ at_long body (line_of rest) (lines_of (rest_of rest)) (most - (count + 1)) a.before s) written
+      let s = some_of now (λ bytes. 65536 < length (line_of bytes)) rest long e in
+      ap (λ zs. run_from (node_of body) zs (suc (most - (count + 1))) a.before) (split_lines rest (long_some rest s))
+      ∙ at_long body (line_of rest) (lines_of (rest_of rest)) (most - (count + 1)) a.before s) written
 
   -- the run's text goes on behind the texts so far
   begun_at : (most m : ℕ) (row : List ℕ) (new : Option (List ℕ)) → most ≡ count + m → (first now : Option (List ℕ)) → Follows body count a.before a.texts first now
@@ -339,8 +346,8 @@ module _ (body : RunningSum) (count : ℕ) (first now old mid : Option (List ℕ
   begun_at most m row new is (Some bytes) (Some rest) f goes_on front =
       let tail = goes_on rest refl in
       subst (λ text. WritesFront old text new)
-          (ap (λ zs. a.texts ++ zs) (sym tail.1) ∙ sym (λ i. (whole_run most m bytes rest is f i).text))
-          (begins_front old mid new a.texts row tail.0 pending a.begun front)
+      (ap (λ zs. a.texts ++ zs) (sym tail.1) ∙ sym (λ i. (whole_run most m bytes rest is f i).text))
+      (begins_front old mid new a.texts row tail.0 pending a.begun front)
 
   -- a front of what was held back is a front of the run's text
   pub begun-held : (most : ℕ) (new : Option (List ℕ)) → count ≤ most → WritesFront mid pending new → IsBegun body most first old new
@@ -355,15 +362,15 @@ module _ (body : RunningSum) (count : ℕ) (first now old mid : Option (List ℕ
       → WritesFront found (kept ++ row_text (Some value)) new → IsBegun body most first old new
   begun-row most found new kept line x value h flushed split short is cell front = begun_at most (suc (most - (count + 1))) (row_text (Some value)) new (omega arith) first now a.follows
       (λ rest e.
-          let s = some_of now (λ bytes. (0 < length bytes) × (line ≡ line_of bytes)) rest split e in
-          let same = ap (λ zs. run_from (node_of body) zs (suc (most - (count + 1))) a.before) (split_lines rest s.0)
-              ∙ at_row body (line_of rest) (lines_of (rest_of rest)) (most - (count + 1)) a.before x value (subst (λ l. length l ≤ 65536) s.1 short) (ap input_of (sym s.1) ∙ is) (cell a.before a.remembers) in
-          ((run_from (node_of body) (lines_of (rest_of rest)) (most - (count + 1)) (a.before ++ x ∷ [])).text, (λ i. (same i).text)))
+      let s = some_of now (λ bytes. (0 < length bytes) × (line ≡ line_of bytes)) rest split e in
+      let same = ap (λ zs. run_from (node_of body) zs (suc (most - (count + 1))) a.before) (split_lines rest s.0)
+      ∙ at_row body (line_of rest) (lines_of (rest_of rest)) (most - (count + 1)) a.before x value (subst (λ l. length l ≤ 65536) s.1 short) (ap input_of (sym s.1) ∙ is) (cell a.before a.remembers) in
+      ((run_from (node_of body) (lines_of (rest_of rest)) (most - (count + 1)) (a.before ++ x ∷ [])).text, (λ i. (same i).text)))
       (front_kept mid found new pending kept (row_text (Some value)) flushed front)
     where
-    front_kept : (mid found new : Option (List ℕ)) (pending kept row : List ℕ) → Begins mid pending found kept → WritesFront found (kept ++ row) new → WritesFront mid (pending ++ row) new
-    front_kept mid found new pending kept row s front =
-        subst (λ zs. WritesFront mid zs new) (ap (λ zs. pending ++ zs) (append-nil row)) (begins_front mid found new pending row [] kept s front)
+      front_kept : (mid found new : Option (List ℕ)) (pending kept row : List ℕ) → Begins mid pending found kept → WritesFront found (kept ++ row) new → WritesFront mid (pending ++ row) new
+      front_kept mid found new pending kept row s front =
+          subst (λ zs. WritesFront mid zs new) (ap (λ zs. pending ++ zs) (append-nil row)) (begins_front mid found new pending row [] kept s front)
 
   read_at : (most m : ℕ) (new : Option (List ℕ)) (held : List ℕ) → most ≡ count + suc m → (first now left : Option (List ℕ)) → Follows body count a.before a.texts first now
       → ahead held left ≡ now → NoNewline held → new ≡ option_map (λ text. text ++ pending) mid → IsRead body most first left old new
@@ -380,12 +387,12 @@ module _ (body : RunningSum) (count : ℕ) (first now old mid : Option (List ℕ
         no_line = no_line;
         whole = whole_at f.lines rest (held ++ left) rest_is f.whole;
         answered = λ i. (lines i).stop;
-        written = begins_all old mid new a.texts pending a.begun written ∙ (λ i. option_map (λ text. text ++ (sym (append-nil a.texts) ∙ sym (λ j. (lines j).text)) i) old)
+        written = begins_all old mid new a.texts pending a.begun written ∙ (λ i. option_map (λ text. text ++ (sym (append-nil a.texts) ∙ sym (λ j. (lines j).text)) i) old);
       }
     where
-    whole_at : (lines rest other : List ℕ) → rest ≡ other → AreWhole lines ⊎ (rest ≡ []) → AreWhole lines ⊎ (other ≡ [])
-    whole_at lines rest other e (inl w) = inl w
-    whole_at lines rest other e (inr none) = inr (sym e ∙ none)
+      whole_at : (lines rest other : List ℕ) → rest ≡ other → AreWhole lines ⊎ (rest ≡ []) → AreWhole lines ⊎ (other ≡ [])
+      whole_at lines rest other e (inl w) = inl w
+      whole_at lines rest other e (inr none) = inr (sym e ∙ none)
 
   -- the lines that were read are answered
   pub read-so-far : (most : ℕ) (new : Option (List ℕ)) (held : List ℕ) (left : Option (List ℕ)) → count < most
@@ -403,17 +410,17 @@ module _ (body : RunningSum) (count : ℕ) (first now old mid : Option (List ℕ
       → Answered body (count + 1) first next old new kept.rows m'.memory
   answered-line m' kept next new is' answers goes_on =
       answered-row body count first now old mid pending m.memory a next found new given.rows kept.rows given.buffer.line m'.memory answers.input answers.value
-          flushed split short goes_on answers.spelled
-          (λ inputs r. subst (λ b. network b (inputs ++ answers.input ∷ []) (length inputs) ≡ Some answers.value) is (answers.cell inputs (had inputs r)))
-          (λ inputs r. subst (λ b. Remembers b (inputs ++ answers.input ∷ []) m'.memory) is' (answers.remembers inputs (had inputs r)))
-          answers.begun
+      flushed split short goes_on answers.spelled
+      (λ inputs r. subst (λ b. network b (inputs ++ answers.input ∷ []) (length inputs) ≡ Some answers.value) is (answers.cell inputs (had inputs r)))
+      (λ inputs r. subst (λ b. Remembers b (inputs ++ answers.input ∷ []) m'.memory) is' (answers.remembers inputs (had inputs r)))
+      answers.begun
 
   -- a front of that row is a front of the run's text
   pub begun-line : (most : ℕ) (new : Option (List ℕ)) → count < most → Begun m given found new → IsBegun body most first old new
   begun-line most new h begun =
       begun-row body count first now old mid pending m.memory a most found new given.rows given.buffer.line begun.input begun.value h flushed split short begun.spelled
-          (λ inputs r. subst (λ b. network b (inputs ++ begun.input ∷ []) (length inputs) ≡ Some begun.value) is (begun.cell inputs (had inputs r)))
-          begun.front
+      (λ inputs r. subst (λ b. network b (inputs ++ begun.input ∷ []) (length inputs) ≡ Some begun.value) is (begun.cell inputs (had inputs r)))
+      begun.front
 
 -- a run that ends so when what is held back is written
 pub over-flushed : (body : RunningSum) (most : ℕ) (first old mid new : Option (List ℕ)) (pending : List ℕ) (end result : DriveEnd)
@@ -423,9 +430,9 @@ pub over-flushed : (body : RunningSum) (most : ℕ) (first old mid new : Option 
 over-flushed body most first old mid new pending end result (inl same) written over =
     subst (λ e. IfSome (stop_of e) (λ stop. IsOver body most first stop old new)) (sym same) (at_end (stop_of end) over)
   where
-  at_end : (o : Option Stop) → IfSome o (λ stop. (written : Option (List ℕ)) → written ≡ option_map (λ text. text ++ pending) mid → IsOver body most first stop old written) → IfSome o (λ stop. IsOver body most first stop old new)
-  at_end None f = tt
-  at_end (Some stop) f = f new (written same)
+    at_end : (o : Option Stop) → IfSome o (λ stop. (written : Option (List ℕ)) → written ≡ option_map (λ text. text ++ pending) mid → IsOver body most first stop old written) → IfSome o (λ stop. IsOver body most first stop old new)
+    at_end None f = tt
+    at_end (Some stop) f = f new (written same)
 over-flushed body most first old mid new pending end result (inr fault) written over =
     subst (λ e. IfSome (stop_of e) (λ stop. IsOver body most first stop old new)) (sym fault) tt
 
@@ -437,7 +444,10 @@ begins-same old new new' text held held' s e k = (s.0, e ∙ s.1, ap (λ zs. s.0
 pub answered-on : (body : RunningSum) (count : ℕ) (first now old mid found : Option (List ℕ)) (pending kept : List ℕ) (memory : ℤ)
     → Answered body count first now old mid pending memory → Begins mid pending found kept → Answered body count first now old found kept memory
 answered-on body count first now old mid found pending kept memory a flushed = record {
-  before = a.before; texts = a.texts; counted = a.counted; remembers = a.remembers;
+  before = a.before;
+  texts = a.texts;
+  counted = a.counted;
+  remembers = a.remembers;
   begun = begins_on old mid found a.texts pending kept a.begun flushed;
-  follows = a.follows
+  follows = a.follows;
 }

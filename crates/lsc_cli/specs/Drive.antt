@@ -1,5 +1,5 @@
 -- What the loop over the lines of the input leaves written.
-use Rattle.std.specs.Prelude.{◌≡◌, ℕ, ℤ, ◌+◌, ◌⊎◌, List, [], ◌∷◌, ◌++◌, Option, Some, None, IfSome, length}
+use Rattle.std.specs.Prelude.{◌≡◌, ℕ, ℤ, ◌⊎◌, List, [], ◌∷◌, ◌++◌, Option, Some, None, IfSome, length}
 use Rattle.std.specs.Option.{option_map}
 use Rattle.ls_base.specs.Outside.{WritesFront}
 use Rattle.kahn_model.specs.declared.running_sum.RunningSum.{RunningSum}

@@ -1,5 +1,4 @@
 -- What the code has read of a file, as lists of bytes.
-use Rattle.std.specs.Prelude.{List, ℕ}
 use Rattle.lsc_cli.specs.SumForm as spec
 use Rattle.lsc_cli.specs.declared.form.Header.{Header}
 use Rattle.lsc_cli.specs.declared.form.SumEquation.{SumEquation}

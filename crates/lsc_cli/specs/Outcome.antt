@@ -1,5 +1,5 @@
 -- What the top call writes, and its status.
-use Rattle.std.specs.Prelude.{◌≡◌, ℕ, ℤ, Bool, true, false, List, [], ◌∷◌, ◌++◌, Option, Some, None, codes, length, nat_lt, decimal, if◌then◌else◌, ⊤, option_and_then}
+use Rattle.std.specs.Prelude.{◌≡◌, ℕ, ℤ, Bool, true, false, List, [], ◌∷◌, ◌++◌, Option, Some, None, codes, length, nat_lt, decimal, if◌then◌else◌}
 use Rattle.std.specs.Option.{option_map}
 use Rattle.std.specs.Str.{bytes_eq}
 use Rattle.kahn_model.specs.declared.running_sum.RunningSum.{RunningSum}
@@ -9,7 +9,6 @@ use Rattle.ls_base.specs.Outside.{WritesFront}
 use Rattle.line_io.specs.Line.{lines_of}
 use Rattle.lsc_cli.specs.IntLine.{input_of, row_text}
 use Rattle.lsc_cli.specs.SumForm.{SumFile, file_of}
-use Rattle.lsc_cli.specs.Words.{Command}
 use Rattle.lsc_cli.specs.declared.status.Status.{Status}
 use Rattle.lsc_cli.specs.declared.status.Status.TheVariants.{Done, Refused, Usage, BadLine, Alarm, Unloaded, ReadFault, WriteFault, NoMemory, TooLarge}
 
@@ -68,6 +67,11 @@ start_node node (Some file) = if bytes_eq file.name node then Runs file.body els
 
 abbrev pub start_of : List ℕ → List ℕ → Start
 start_of node file = if nat_lt 1048576 (length file) then Ends too_large else start_node node (file_of file)
+
+-- the node runs, and this holds of its body
+abbrev pub OnRun : Start → (RunningSum → Type 0) → Type 0
+OnRun (Ends outcome) holds = ⊥
+OnRun (Runs body) holds = holds body
 
 -- the call's outcome, where it is fixed by what is told
 abbrev pub outcome_at : Start → Option (List ℕ) → Option Outcome

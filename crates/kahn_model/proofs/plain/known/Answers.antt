@@ -1,4 +1,4 @@
-use Rattle.std.proofs.Common.{arith, rules, ◌∙◌, ap, ◌≡◌, take, map, Some}
+use Rattle.std.proofs.Common.{arith, ◌∙◌, ap, ◌≡◌, map, Some}
 use Rattle.std.proofs.lemmas.Grind.{common_steps}
 use Rattle.kahn_model.specs.RunningSum.{row_in}
 use Rattle.kahn_model.proofs.RunningSumLemmas.{row_in-known}

@@ -1,4 +1,4 @@
-use Rattle.std.proofs.Common.{◌≡◌, ◌<◌, [], refl, sym, ◌∙◌, subst, length, ap}
+use Rattle.std.proofs.Common.{◌<◌, refl, ◌∙◌, subst, length, ap}
 use Rattle.std.specs.Option.{IfSome}
 use Rattle.line_io.specs.Line.{ahead, line_of}
 use Rattle.line_io.proofs.NextLemmas.{cut_line, cut_rest}

@@ -1,11 +1,11 @@
-use Rattle.std.proofs.Common.{◌≡◌, ◌++◌, ◌∷◌, [], List, ℕ, Some, sym, ◌∙◌, subst, ap, set, w64}
+use Rattle.std.proofs.Common.{◌≡◌, ◌++◌, Some, ◌∙◌, subst, set, w64}
 use Rattle.std.proofs.Math.Facts.{to_z-of_z}
 use Rattle.std.specs.Prelude.{OnOk, OnErr}
 use Rattle.ls_base.specs.Outside.{WritesFront}
 use Rattle.ls_value.specs.declared.leaf.Leaf.TheVariants.{Int}
 use Rattle.line_io.specs.declared.form.Cell.TheVariants.{Leaf}
 use Rattle.line_io.specs.Rows.{Begins, row_text as text_of}
-use Rattle.lsc_cli.specs.IntLine.{int_form, row_text}
+use Rattle.lsc_cli.specs.IntLine.{row_text}
 use Rattle.lsc_cli.proofs.IntLineLemmas.{set-one}
 use Rattle.lsc_cli.proofs.exchange.put_int.Goals as goal
 

@@ -1,5 +1,4 @@
-use Rattle.std.proofs.Common.{sym, ◌∙◌, ap, false, ◌≡◌}
-use Rattle.lsc_cli.specs.Bytes.{behind, is_blank}
+use Rattle.std.proofs.Common.{sym, ◌∙◌, ap}
 use Rattle.lsc_cli.specs.SumForm.{is_empty}
 use Rattle.lsc_cli.specs.FormViews.{header_view, equation_view}
 use Rattle.lsc_cli.proofs.FormLemmas.{file-unended, not_empty}

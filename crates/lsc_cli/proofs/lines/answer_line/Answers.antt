@@ -1,4 +1,4 @@
-use Rattle.std.proofs.Common.{◌≡◌, ℤ, sym, ◌∙◌, subst, ap, w64, Some, ◌++◌, to_z, of_z}
+use Rattle.std.proofs.Common.{ℤ, sym, ◌∙◌, subst, ap, w64, Some, ◌++◌, to_z, of_z}
 use Rattle.std.proofs.Math.Facts.{to_z-of_z}
 use Rattle.line_io.specs.Rows.{Begins}
 use Rattle.lsc_cli.specs.IntLine.{input_of, row_text}
@@ -15,5 +15,5 @@ returns-in-Ok-clause-row g c = λ is.
       cell = c.step-value.ensures.cell;
       remembers = c.step-value.ensures.memory;
       begun = subst (λ (v : ℤ). Begins (g.K.Sink.written c.args.out.now) (c.args.exchange.now.rows ++ row_text (Some v)) (g.K.Sink.written c.put_int.new.out) c.put_int.new.rows)
-          (to_z-of_z {w = w64} (record { sfits = c.step-value.type_inv })) c.in-Ok.ensures.all
+          (to_z-of_z {w = w64} (record { sfits = c.step-value.type_inv })) c.in-Ok.ensures.all;
     }

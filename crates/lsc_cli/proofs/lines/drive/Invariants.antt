@@ -11,5 +11,5 @@ invariant-loop-answered g l = record {
   body : l.machine.body ≡ l.fn.machine.body;
   ready : IsReady l.exchange;
   reads : g.S.Source.count l.fn.input ≤ g.S.Source.count l.input;
-  writes : g.K.Sink.count l.fn.out ≤ g.K.Sink.count l.out
+  writes : g.K.Sink.count l.fn.out ≤ g.K.Sink.count l.out;
 }

@@ -1,0 +1,121 @@
+use crate::{Status, lsc};
+use ls_base::{MemSink, MemSource, MemTexts};
+use std::alloc::{AllocError, Global};
+use std::test::Fail;
+
+const SUM: &[u8] = b"let node sum x = s where rec s = x + (0 fby s)\n";
+
+/// The numbers of the calls that fail, if one does.
+fn failing(alloc: Global, call: Option<u64>) -> Result<Vec<u64>, AllocError> {
+    let mut fails = Vec::new(alloc);
+    if let Some(call) = call {
+        fails.push(call)?;
+    }
+    Ok(fails)
+}
+
+/// What the top call answers and writes: the file is `f.ls`, and the input comes in pieces of two.
+fn answer(
+    alloc: Global,
+    words: &[&str],
+    file: &[u8],
+    input: &[u8],
+) -> Result<(Status, Vec<u8>), Fail> {
+    answer_with(alloc, words, file, input, None, None)
+}
+
+/// The same, where a read or a write may fail.
+fn answer_with(
+    alloc: Global,
+    words: &[&str],
+    file: &[u8],
+    input: &[u8],
+    read: Option<u64>,
+    write: Option<u64>,
+) -> Result<(Status, Vec<u8>), Fail> {
+    let mut owned = Vec::new(alloc);
+    for word in words {
+        owned.push(String::from_str(alloc, word)?)?;
+    }
+    let mut files = Vec::new(alloc);
+    files.push((String::from_str(alloc, "f.ls")?, file.to_vec(alloc)?))?;
+    let mut texts = MemTexts::new(files, Vec::new(alloc));
+    let mut source = MemSource::new(input.to_vec(alloc)?, 2, failing(alloc, read)?);
+    let mut sink = MemSink::new(alloc, 1000, failing(alloc, write)?).map_err(|_| AllocError)?;
+    let status = lsc(alloc, &owned, &mut texts, &mut source, &mut sink);
+    Ok((status, sink.written().to_vec(alloc)?))
+}
+
+#[test]
+fn runs_are_answered(rt: HostRuntime) -> Result<(), Fail> {
+    let run = ["run", "f.ls", "sum"];
+    let cases: [(&[u8], &[u8], Status); 5] = [
+        (b"1\n2\n3\n", b"1\n3\n6\n", Status::Done),
+        (b"", b"", Status::Done),
+        (b"1\n2\n3\n4", b"1\n3\n6\n10\n", Status::Done),
+        (b" -1\t\r\n007\n", b"-1\n6\n", Status::Done),
+        (b"5\n\n6\n", b"5\nbad line 2\n", Status::BadLine),
+    ];
+    for (input, output, status) in cases {
+        let (answered, written) = answer(rt.alloc(), &run, SUM, input)?;
+        assert_eq!(rt; answered, status);
+        assert_eq!(rt; written.as_slice(), output);
+    }
+    Ok(())
+}
+
+#[test]
+fn other_calls_are_refused(rt: HostRuntime) -> Result<(), Fail> {
+    let cases: [(&[&str], &[u8], Status); 6] = [
+        (&[], b"", Status::Usage),
+        (&["run", "f.ls"], b"", Status::Usage),
+        (&["walk", "f.ls", "sum"], b"", Status::Usage),
+        (&["run", "g.ls", "sum"], b"", Status::Unloaded),
+        (
+            &["run", "f.ls", "total"],
+            b"refused: no such node\n",
+            Status::Refused,
+        ),
+        (&["run", "f.ls", "sum"], b"1\n", Status::Done),
+    ];
+    for (words, output, status) in cases {
+        let (answered, written) = answer(rt.alloc(), words, SUM, b"1\n")?;
+        assert_eq!(rt; answered, status);
+        assert_eq!(rt; written.as_slice(), output);
+    }
+    Ok(())
+}
+
+#[test]
+fn large_files_and_lines_are_refused(rt: HostRuntime) -> Result<(), Fail> {
+    let run = ["run", "f.ls", "sum"];
+    let file = vec![in rt.alloc(); b' '; 1_048_577]?;
+    let (answered, written) = answer(rt.alloc(), &run, &file, b"1\n")?;
+    assert_eq!(rt; answered, Status::TooLarge);
+    assert_eq!(rt; written.len(), 0);
+    let line = vec![in rt.alloc(); b'0'; 65_537]?;
+    let (answered, written) = answer(rt.alloc(), &run, SUM, &line)?;
+    assert_eq!(rt; answered, Status::TooLarge);
+    assert_eq!(rt; written.len(), 0);
+    let (answered, written) = answer(rt.alloc(), &run, SUM, &line[1..])?;
+    assert_eq!(rt; answered, Status::Done);
+    assert_eq!(rt; written.as_slice(), b"0\n".as_slice());
+    Ok(())
+}
+
+#[test]
+fn faults_leave_what_was_answered(rt: HostRuntime) -> Result<(), Fail> {
+    let run = ["run", "f.ls", "sum"];
+    let cases: [(Option<u64>, Option<u64>, &[u8], Status); 4] = [
+        (Some(1), None, b"1\n", Status::ReadFault),
+        (Some(0), None, b"", Status::ReadFault),
+        (None, Some(0), b"", Status::WriteFault),
+        (None, Some(1), b"1\n", Status::WriteFault),
+    ];
+    for (read, write, output, status) in cases {
+        let (answered, written) = answer_with(rt.alloc(), &run, SUM, b"1\n2\n", read, write)?;
+        assert_eq!(rt; answered, status);
+        assert_eq!(rt; written.as_slice(), output);
+    }
+    Ok(())
+}
