@@ -1,0 +1,11 @@
+pub mod Rows
+pub mod Operators
+pub mod Values
+pub mod Clocks
+pub mod Cells
+pub mod Functions
+pub mod Search
+pub mod Turn
+pub mod Table
+pub mod Alarm
+pub mod Program

@@ -1,0 +1,119 @@
+-- Looking things up among what stands in a body.
+use Rattle.std.specs.Prelude.{ℕ, zero, suc, ◌==◌, ◌&&◌, Bool, true, false, List, [], ◌∷◌, Option, Some, None, if◌then◌else◌}
+use Rattle.ls_value.specs.declared.leaf.Leaf.TheVariants as leaf
+use Rattle.ls_terms.specs.declared.term.ClockTerm.{ClockTerm}
+use Rattle.ls_sig.specs.Places.{InnerArm}
+use Rattle.ls_sig.specs.declared.binder.Binder.{Binder}
+use Rattle.ls_sig.specs.declared.binder.Binder.TheVariants as b
+use Rattle.ls_sig.specs.declared.binder.Note.{Note}
+use Rattle.ls_sig.specs.declared.places.Site.{Site}
+use Rattle.ls_sig.specs.declared.places.Variable.{Variable}
+use Rattle.ls_sig.specs.declared.places.Start.{Start}
+use Rattle.ls_sig.specs.declared.places.Transition.{Transition}
+use Rattle.kahn_model.specs.declared.cell.Cell.{Cell}
+use Rattle.kahn_model.specs.declared.cell.Cell.TheVariants.{Silent, Present, Chosen}
+use Rattle.kahn_model.specs.declared.cell.Reach.{Reach}
+use Rattle.kahn_model.specs.declared.cell.Reach.TheVariants.{Here, Elsewhere, NoArm}
+use Rattle.kahn_model.specs.declared.cell.Value.{Value}
+use Rattle.kahn_model.specs.declared.cell.Value.TheVariants as v
+use Rattle.kahn_model.specs.Clocks.{mentions, names_in}
+use Rattle.kahn_model.specs.Functions.{has_name}
+use Rattle.kahn_model.specs.Values.{nil, case_of}
+
+abbrev pub same_number : ℕ → ℕ → Bool
+same_number j k = j == k
+
+abbrev pub and : Bool → Bool → Bool
+and a b = a && b
+
+abbrev pub nth : {A : Type 0} → List A → ℕ → Option A
+nth [] k = None
+nth (x ∷ xs) zero = Some x
+nth (x ∷ xs) (suc k) = nth xs k
+
+-- ---- where a clock variable occurs
+
+-- the common beginning of two places
+abbrev pub common : List InnerArm → List InnerArm → List InnerArm
+common (a ∷ p) (c ∷ q) = if a.0 == c.0 && a.1 == c.1 then a ∷ common p q else []
+common _ _ = []
+
+-- the arms that hold the block of each of these names: a clock below a sampling on a block is the clock of that block,
+-- which stands outside its arms
+abbrev pub outside : List ℕ → List InnerArm → List InnerArm
+outside ms [] = []
+outside ms (mj ∷ p) = if has_name mj.0 ms then [] else mj ∷ outside ms p
+
+-- where a clock variable occurs, by the clocks noted at one place
+abbrev pub term_places : ℕ → List InnerArm → List ClockTerm → List (List InnerArm)
+term_places w p [] = []
+term_places w p (t ∷ ts) = if mentions w t then outside (names_in t) p ∷ term_places w p ts else term_places w p ts
+
+abbrev pub starts_with : List InnerArm → List InnerArm → Bool
+starts_with p [] = true
+starts_with [] (a ∷ q) = false
+starts_with (a ∷ p) (c ∷ q) = (a.0 == c.0 && a.1 == c.1) && starts_with p q
+
+-- the smallest arm that holds all these places
+abbrev pub narrow : List (List InnerArm) → List InnerArm
+narrow [] = []
+narrow (p ∷ []) = p
+narrow (p ∷ ps) = common p (narrow ps)
+
+-- ---- variables and arms
+
+-- the equations of a variable, in the order of the text
+abbrev pub sites_of : ℕ → List (Site Note) → List (Site Note)
+sites_of x [] = []
+sites_of x (s ∷ all) = if s.var == x then s ∷ sites_of x all else sites_of x all
+
+-- the initial equation of a variable
+abbrev pub start_of : Variable → List (Start Note) → Option (Start Note)
+start_of w [] = None
+start_of w (s ∷ all) = if s.name == w.name && (starts_with s.list w.list && starts_with w.list s.list) then Some s else start_of w all
+
+-- the signal of this name that is seen at a place
+abbrev pub signal_in : ℕ → List InnerArm → List Variable → ℕ → Option ℕ
+signal_in x p [] k = None
+signal_in x p (w ∷ ws) k = if w.name == x && starts_with p w.list then Some k else signal_in x p ws (suc k)
+
+-- the number of the state of this name
+abbrev pub state_of : ℕ → List (ℕ × List (Transition Note)) → ℕ → ℕ
+state_of x [] k = k
+state_of x (s ∷ all) k = if s.0 == x then k else state_of x all (suc k)
+
+-- the first arm that takes the case `k`
+abbrev pub arm_of : ℕ → List (Option ℕ) → ℕ → Option ℕ
+arm_of k [] j = None
+arm_of k (None ∷ all) j = Some j
+arm_of k (Some c ∷ all) j = if c == k then Some j else arm_of k all (suc j)
+
+-- the arm that a scrutinee chooses: none where it is Nil
+abbrev pub chosen_arm : List (Option ℕ) → Value → Option ℕ
+chosen_arm all w = elim (case_of w) [ None ↦ None | Some k ↦ arm_of k all 0 ]
+
+-- by an equation whose arms are active here, elsewhere, or nowhere since a scrutinee is Nil
+abbrev pub by_reach : Option Cell → Option Cell → Bool → Reach → Option Cell
+by_reach this more signal Here = this
+by_reach this more signal Elsewhere = more
+by_reach this more signal NoArm = Some (if signal then Silent else Present nil)
+
+abbrev pub yes_or : Option Cell → Option Cell → Bool → Option Cell
+yes_or this more true = this
+yes_or this more false = more
+
+-- by what a block chooses: its arm `j` or another
+abbrev pub reach_case : ℕ → Option Reach → Cell → Option Reach
+reach_case j more (Chosen None restart) = Some NoArm
+reach_case j more (Chosen (Some k) restart) = if same_number k j then more else Some Elsewhere
+reach_case j more _ = Some Elsewhere
+
+-- the guards of the state of this number
+abbrev pub guards_of : List (ℕ × List (Transition Note)) → ℕ → List (Transition Note)
+guards_of [] k = []
+guards_of (s ∷ all) zero = s.1
+guards_of (s ∷ all) (suc k) = guards_of all k
+
+abbrev pub case_value : Binder → Value
+case_value (b.Case t k) = v.Leaf (leaf.Enum t k)
+case_value _ = nil

@@ -1,0 +1,8 @@
+//! The meaning of a program: the network of streams of its nodes, after Kahn (1974).
+#![tactic(auto)]
+
+mod cell;
+mod definition;
+
+pub use cell::{Cell, Key, Reach, Value};
+pub use definition::Definition;

@@ -1,0 +1,32 @@
+use ls_base::{Boxed, List};
+
+/// Whether a function is combinatorial (`->`) or sequential (`=>`).
+#[derive(Clone, Copy, Debug, PartialEq, Eq)]
+pub enum Kind {
+    Comb,
+    Seq,
+}
+
+/// A type.
+#[derive(Debug, Drop)]
+pub enum TypeTerm {
+    Var(u32),
+    Int,
+    Bool,
+    Char,
+    Text,
+    Unit,
+    Enum(u32),
+    Tuple(List<TypeTerm>),
+    Arrow(Kind, List<TypeTerm>, Boxed<TypeTerm>),
+    Signal(Boxed<TypeTerm>),
+}
+
+/// A clock.
+#[derive(Debug, Drop)]
+pub enum ClockTerm {
+    Var(u32),
+    On(Boxed<ClockTerm>, u32, u32),
+    Pointwise,
+    Arrow(List<ClockTerm>, Boxed<ClockTerm>),
+}
