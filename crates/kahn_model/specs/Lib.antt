@@ -9,3 +9,5 @@ pub mod Turn
 pub mod Table
 pub mod Alarm
 pub mod Program
+pub mod Order
+pub mod Fullness

@@ -1,0 +1,3 @@
+pub mod Below
+pub mod Related
+pub mod Monotone
