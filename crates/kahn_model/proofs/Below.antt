@@ -62,7 +62,7 @@ pub know_all_below : {A : Type 0} (xs ys : List (Option A)) → AllBelow xs ys �
 know_all_below [] [] p = below_refl (Some [])
 know_all_below (a ∷ xs) (b ∷ ys) p =
     know_below a b (λ x. know (know_all xs) (λ zs. Some (x ∷ zs))) (λ x. know (know_all ys) (λ zs. Some (x ∷ zs))) p.0
-      (λ x. know_below (know_all xs) (know_all ys) (λ zs. Some (x ∷ zs)) (λ zs. Some (x ∷ zs)) (know_all_below xs ys p.1) (λ zs. below_refl (Some (x ∷ zs))))
+    (λ x. know_below (know_all xs) (know_all ys) (λ zs. Some (x ∷ zs)) (λ zs. Some (x ∷ zs)) (know_all_below xs ys p.1) (λ zs. below_refl (Some (x ∷ zs))))
 know_all_below [] (b ∷ ys) p = absurd p
 know_all_below (a ∷ xs) [] p = absurd p
 
@@ -85,4 +85,4 @@ pub previous_below : (on on' again again' : Row Bool) → RowBelow on on' → Ro
 previous_below on on' again again' p q zero = below_refl (Some None)
 previous_below on on' again again' p q (suc i) =
     know_below (again (suc i)) (again' (suc i)) (search_step i (on i) (previous on again i)) (search_step i (on' i) (previous on' again' i)) (q (suc i))
-      (search_below i (on i) (on' i) (previous on again i) (previous on' again' i) (p i) (previous_below on on' again again' p q i))
+    (search_below i (on i) (on' i) (previous on again i) (previous on' again' i) (p i) (previous_below on on' again again' p q i))

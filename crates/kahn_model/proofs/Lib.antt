@@ -1,3 +1,11 @@
 pub mod Below
 pub mod Related
 pub mod Monotone
+pub mod Solutions
+pub mod Filling
+pub mod Causal
+pub mod Pointwise
+pub mod Productive
+pub mod Full
+pub mod Calls
+pub mod Known

@@ -195,7 +195,7 @@ module _ (cases : ℕ → Option ℕ) (defs : List Definition) (call : Meaning) 
   on_below : (ck : ClockTerm) → On ck
   on_below = ind-ClockTerm On (λ x y from. subst (λ z. On (roll-ClockTerm z)) from
       (subst (λ r. RowBelow r (fold-ClockTerm (Row Bool) step' (roll-ClockTerm (bare_terms y)))) (sym (fold-roll-ClockTerm (Row Bool) step (bare_terms y)))
-        (subst (λ r. RowBelow (step (map-ClockTerm ClockTerm (Row Bool) (fold-ClockTerm (Row Bool) step) (bare_terms y))) r) (sym (fold-roll-ClockTerm (Row Bool) step' (bare_terms y))) (on_layer y))))
+      (subst (λ r. RowBelow (step (map-ClockTerm ClockTerm (Row Bool) (fold-ClockTerm (Row Bool) step) (bare_terms y))) r) (sym (fold-roll-ClockTerm (Row Bool) step' (bare_terms y))) (on_layer y))))
 
   look_below : (bound : Binder) (x : ℕ) → ArgBelow (Turn.look cases defs call d a T bound x) (Turn.look cases defs call d a' T' bound x)
   look_below (b.Var k) x = tb (key.Var k)
@@ -228,9 +228,9 @@ module _ (cases : ℕ → Option ℕ) (defs : List Definition) (call : Meaning) 
       (after_first (Turn.start_row cases defs call d a T x (start_of w d.places.starts) i) (T (key.Var x)))
       (after_first (Turn.start_row cases defs call d a' T' x (start_of w d.places.starts) i) (T' (key.Var x)))
       (previous_below (Turn.variable_here cases defs call d a T x) (Turn.variable_here cases defs call d a' T' x) (Turn.again cases defs call d a T w.place) (Turn.again cases defs call d a' T' w.place)
-        (variable_here_below x) (again_below w.place) i)
+      (variable_here_below x) (again_below w.place) i)
       (after_first_below (Turn.start_row cases defs call d a T x (start_of w d.places.starts) i) (Turn.start_row cases defs call d a' T' x (start_of w d.places.starts) i) (T (key.Var x)) (T' (key.Var x))
-        (start_row_below x (start_of w d.places.starts) i) (tb (key.Var x)))
+      (start_row_below x (start_of w d.places.starts) i) (tb (key.Var x)))
 
   last_below : (x : ℕ) → RowBelow (Turn.last cases defs call d a T x) (Turn.last cases defs call d a' T' x)
   last_below x = last_of_below x (nth d.places.vars x)
@@ -270,8 +270,8 @@ module _ (cases : ℕ → Option ℕ) (defs : List Definition) (call : Meaning) 
   apply_below (stream r) (stream s) xs xs' h h' act act' rst rst' p q e g z = λ i x e. e
   apply_below (def k c) (def l c') xs xs' h h' act act' rst rst' p q e g z =
       subst (λ m. RowBelow (call k (record { active = act; again = rst; clocks = unwrap_or c (λ w. h); args = xs })) (call m (record { active = act'; again = rst'; clocks = unwrap_or c' (λ w. h'); args = xs' }))) p.0
-        (mono k (record { active = act; again = rst; clocks = unwrap_or c (λ w. h); args = xs }) (record { active = act'; again = rst'; clocks = unwrap_or c' (λ w. h'); args = xs' })
-          (record { active = g; again = z; clocks = own_or_below c c' h h' p.1 e; args = q }))
+      (mono k (record { active = act; again = rst; clocks = unwrap_or c (λ w. h); args = xs }) (record { active = act'; again = rst'; clocks = unwrap_or c' (λ w. h'); args = xs' })
+      (record { active = g; again = z; clocks = own_or_below c c' h h' p.1 e; args = q }))
   apply_below (given f x) (given f' x') xs xs' h h' act act' rst rst' p q e g z = apply_below f f' (x ∷ xs) (x' ∷ xs') h h' act act' rst rst' p.0 (p.1, q) e g z
   apply_below (stream r) (def l c') xs xs' h h' act act' rst rst' p q e g z = absurd p
   apply_below (stream r) (given f' x') xs xs' h h' act act' rst rst' p q e g z = absurd p
@@ -300,7 +300,7 @@ module _ (cases : ℕ → Option ℕ) (defs : List Definition) (call : Meaning) 
       (stream (Turn.apply cases defs call d a' T' f' (args_said ys) (Turn.on cases defs call d a' T' n.ck) act' (Turn.every_too cases defs call d a' T' rst' t)))
       (give_below f f' (args_said xs) (args_said ys) r (args_below xs ys u))
       (apply_below f f' (args_said xs) (args_said ys) (Turn.on cases defs call d a T n.ck) (Turn.on cases defs call d a' T' n.ck) act act'
-        (Turn.every_too cases defs call d a T rst s) (Turn.every_too cases defs call d a' T' rst' t) r (args_below xs ys u) (on_below n.ck) p (every_below rst rst' s t q e))
+      (Turn.every_too cases defs call d a T rst s) (Turn.every_too cases defs call d a' T' rst' t) r (args_below xs ys u) (on_below n.ck) p (every_below rst rst' s t q e))
 
   used_below : (act act' rst rst' : Row Bool) (n : Note) (bound : Binder) (x : ℕ) → RowBelow act act' → RowBelow rst rst'
       → ArgBelow (Turn.used cases defs call d a T act rst n bound x) (Turn.used cases defs call d a' T' act' rst' n bound x)
@@ -322,7 +322,7 @@ module _ (cases : ℕ → Option ℕ) (defs : List Definition) (call : Meaning) 
   branch_below k [] [] q = λ i. below_refl (Some Absent)
   branch_below k (x ∷ xs) (y ∷ ys) q = subst (λ c. RowBelow (Turn.branch cases defs call d a T k (x ∷ xs)) (Turn.branch cases defs call d a' T' k ((c, y.1) ∷ ys))) q.0.0
       (if_rel RowBelow (unwrap_or (option_map (λ j. Search.same_number j k) (Turn.case_number cases defs call d a T x.0)) false) (row_of x.1.arg) (row_of y.1.arg)
-        (Turn.branch cases defs call d a T k xs) (Turn.branch cases defs call d a' T' k ys) (row_below x.1.arg y.1.arg q.0.1.1) (branch_below k xs ys q.1))
+      (Turn.branch cases defs call d a T k xs) (Turn.branch cases defs call d a' T' k ys) (row_below x.1.arg y.1.arg q.0.1.1) (branch_below k xs ys q.1))
   branch_below k [] (y ∷ ys) q = absurd q
   branch_below k (x ∷ xs) [] q = absurd q
 
@@ -396,14 +396,14 @@ module _ (cases : ℕ → Option ℕ) (defs : List Definition) (call : Meaning) 
 
     call_layer : (n : Note) (x : ℕ) (args : List TwoS) (s t : Option Said) → EveryBelow s t
         → ArgBelow (Turn.called cases defs call d a T act rst n (Turn.head_of cases defs call d a T n.bound n.ck x (clocks_said (map {A = TwoS} {B = Said} (λ p. p.0) args))) (map {A = TwoS} {B = Said} (λ p. p.0) args) s)
-          (Turn.called cases defs call d a' T' act' rst' n (Turn.head_of cases defs call d a' T' n.bound n.ck x (clocks_said (map {A = TwoS} {B = Said} (λ p. p.1) args))) (map {A = TwoS} {B = Said} (λ p. p.1) args) t)
+        (Turn.called cases defs call d a' T' act' rst' n (Turn.head_of cases defs call d a' T' n.bound n.ck x (clocks_said (map {A = TwoS} {B = Said} (λ p. p.1) args))) (map {A = TwoS} {B = Said} (λ p. p.1) args) t)
     call_layer n x args s t q =
         let xs : List Said = map {A = TwoS} {B = Said} (λ p. p.0) args in
         let ys : List Said = map {A = TwoS} {B = Said} (λ p. p.1) args in
         called_below act act' rst rst' n (Turn.head_of cases defs call d a T n.bound n.ck x (clocks_said xs)) (Turn.head_of cases defs call d a' T' n.bound n.ck x (clocks_said ys)) xs ys s t actb rstb
-          (subst (λ cks. ArgBelow (Turn.head_of cases defs call d a T n.bound n.ck x (clocks_said xs)) (Turn.head_of cases defs call d a' T' n.bound n.ck x cks)) (clocks_same xs ys (saids_two args))
-            (head_below n.bound n.ck x (clocks_said xs)))
-          (saids_two args) q
+        (subst (λ cks. ArgBelow (Turn.head_of cases defs call d a T n.bound n.ck x (clocks_said xs)) (Turn.head_of cases defs call d a' T' n.bound n.ck x cks)) (clocks_same xs ys (saids_two args))
+        (head_below n.bound n.ck x (clocks_said xs)))
+        (saids_two args) q
 
     layer : (y : Form-F Note TwoF TwoS) → RelF (fs (Lefts y)) (fs' (Rights y))
     layer (Form-F.Leaf l) n = λ i. below_refl (Some (Present (v.Leaf l)))
@@ -477,7 +477,7 @@ module _ (cases : ℕ → Option ℕ) (defs : List Definition) (call : Meaning) 
       (Search.by_reach (Turn.right_cell cases defs call d a' T' w.name s.place s.right i) (Turn.by_sites cases defs call d a' T' w o' rest i) w.signal)
       (reach_below s.inner i)
       (by_reach_below (Turn.right_cell cases defs call d a T w.name s.place s.right i) (Turn.right_cell cases defs call d a' T' w.name s.place s.right i)
-        (Turn.by_sites cases defs call d a T w o rest i) (Turn.by_sites cases defs call d a' T' w o' rest i) w.signal (right_below w.name s.place s.right i) (by_sites_below w o o' rest q i))
+      (Turn.by_sites cases defs call d a T w o rest i) (Turn.by_sites cases defs call d a' T' w o' rest i) w.signal (right_below w.name s.place s.right i) (by_sites_below w o o' rest q i))
 
   variable_below : (x : ℕ) (w : Option Variable) → RowBelow (Turn.variable_cell cases defs call d a T x w) (Turn.variable_cell cases defs call d a' T' x w)
   variable_below x None = λ i x e. e
@@ -486,7 +486,7 @@ module _ (cases : ℕ → Option ℕ) (defs : List Definition) (call : Meaning) 
       (Turn.by_sites cases defs call d a' T' w (if w.signal then (λ j. Some Silent) else Turn.last cases defs call d a' T' x) (sites_of x d.places.sites) i)
       (variable_here_below x i)
       (by_sites_below w (if w.signal then (λ j. Some Silent) else Turn.last cases defs call d a T x) (if w.signal then (λ j. Some Silent) else Turn.last cases defs call d a' T' x) (sites_of x d.places.sites)
-        (if_rel RowBelow w.signal (λ j. Some Silent) (λ j. Some Silent) (Turn.last cases defs call d a T x) (Turn.last cases defs call d a' T' x) (λ j. below_refl (Some Silent)) (last_below x)) i)
+      (if_rel RowBelow w.signal (λ j. Some Silent) (λ j. Some Silent) (Turn.last cases defs call d a T x) (Turn.last cases defs call d a' T' x) (λ j. below_refl (Some Silent)) (last_below x)) i)
 
   start_below : (s : Option (Start Note)) → RowBelow (Turn.start_cell cases defs call d a T s) (Turn.start_cell cases defs call d a' T' s)
   start_below None = λ i. below_refl (Some Absent)
@@ -518,7 +518,7 @@ module _ (cases : ℕ → Option ℕ) (defs : List Definition) (call : Meaning) 
       (λ c. Search.yes_or (Some (Chosen (Some (Search.state_of g.target states 0)) g.restart)) (Turn.first_true cases defs call d a' T' states p o gs i) (is_yes c))
       (cell_below p g.cond i)
       (λ c. yes_or_below (Some (Chosen (Some (Search.state_of g.target states 0)) g.restart)) (Turn.first_true cases defs call d a T states p o gs i) (Turn.first_true cases defs call d a' T' states p o gs i)
-        (first_true_below states p o gs i) (is_yes c))
+      (first_true_below states p o gs i) (is_yes c))
 
   choice_below : (keep : Bool) (m : ℕ) (states : List (ℕ × List (Transition Note))) (p : Place) (i : ℕ) (c : Cell)
       → Below (Turn.choice cases defs call d a T keep m states p i c) (Turn.choice cases defs call d a' T' keep m states p i c)
@@ -555,23 +555,23 @@ module _ (cases : ℕ → Option ℕ) (defs : List Definition) (call : Meaning) 
       (know (Turn.cell cases defs call d a' T' p e i) (λ c. Some (Chosen (Search.chosen_arm all (value_in c)) false)))
       (on_below e.note.ck i)
       (know_below (Turn.cell cases defs call d a T p e i) (Turn.cell cases defs call d a' T' p e i) (λ c. Some (Chosen (Search.chosen_arm all (value_in c)) false)) (λ c. Some (Chosen (Search.chosen_arm all (value_in c)) false))
-        (cell_below p e i) (λ c. below_refl (Some (Chosen (Search.chosen_arm all (value_in c)) false))))
+      (cell_below p e i) (λ c. below_refl (Some (Chosen (Search.chosen_arm all (value_in c)) false))))
   name_below m (Some (named.Present xs p)) = λ i. at_below (Turn.present_here cases defs call d a T xs p i) (Turn.present_here cases defs call d a' T' xs p i)
       (Turn.first_emitted cases defs call d a T xs p 0 i) (Turn.first_emitted cases defs call d a' T' xs p 0 i) (present_below xs p i) (emitted_below xs p 0 i)
   name_below m (Some (named.Active states p)) = λ i. at_below (Turn.mode_here cases defs call d a T m p i) (Turn.mode_here cases defs call d a' T' m p i)
       (know (T (key.Name (m + 1)) i) (Turn.choice cases defs call d a T true (m + 1) states p i)) (know (T' (key.Name (m + 1)) i) (Turn.choice cases defs call d a' T' true (m + 1) states p i))
       (mode_below m p i)
       (know_below (T (key.Name (m + 1)) i) (T' (key.Name (m + 1)) i) (Turn.choice cases defs call d a T true (m + 1) states p i) (Turn.choice cases defs call d a' T' true (m + 1) states p i)
-        (tb (key.Name (m + 1)) i) (choice_below true (m + 1) states p i))
+      (tb (key.Name (m + 1)) i) (choice_below true (m + 1) states p i))
   name_below m (Some (named.Tested states p)) = λ i. at_below (Turn.mode_here cases defs call d a T (m - 1) p i) (Turn.mode_here cases defs call d a' T' (m - 1) p i)
       (know (previous (Turn.mode_here cases defs call d a T (m - 1) p) (Turn.again cases defs call d a T p) i) (Turn.after_state cases defs call d a T (Turn.choice cases defs call d a T false (m - 1) states p) (T (key.Name (m - 1)))))
       (know (previous (Turn.mode_here cases defs call d a' T' (m - 1) p) (Turn.again cases defs call d a' T' p) i) (Turn.after_state cases defs call d a' T' (Turn.choice cases defs call d a' T' false (m - 1) states p) (T' (key.Name (m - 1)))))
       (mode_below (m - 1) p i)
       (know_below (previous (Turn.mode_here cases defs call d a T (m - 1) p) (Turn.again cases defs call d a T p) i) (previous (Turn.mode_here cases defs call d a' T' (m - 1) p) (Turn.again cases defs call d a' T' p) i)
-        (Turn.after_state cases defs call d a T (Turn.choice cases defs call d a T false (m - 1) states p) (T (key.Name (m - 1)))) (Turn.after_state cases defs call d a' T' (Turn.choice cases defs call d a' T' false (m - 1) states p) (T' (key.Name (m - 1))))
-        (previous_below (Turn.mode_here cases defs call d a T (m - 1) p) (Turn.mode_here cases defs call d a' T' (m - 1) p) (Turn.again cases defs call d a T p) (Turn.again cases defs call d a' T' p) (mode_below (m - 1) p) (again_below p) i)
-        (after_state_below (Turn.choice cases defs call d a T false (m - 1) states p) (Turn.choice cases defs call d a' T' false (m - 1) states p) (T (key.Name (m - 1))) (T' (key.Name (m - 1)))
-          (choice_below false (m - 1) states p) (tb (key.Name (m - 1)))))
+      (Turn.after_state cases defs call d a T (Turn.choice cases defs call d a T false (m - 1) states p) (T (key.Name (m - 1)))) (Turn.after_state cases defs call d a' T' (Turn.choice cases defs call d a' T' false (m - 1) states p) (T' (key.Name (m - 1))))
+      (previous_below (Turn.mode_here cases defs call d a T (m - 1) p) (Turn.mode_here cases defs call d a' T' (m - 1) p) (Turn.again cases defs call d a T p) (Turn.again cases defs call d a' T' p) (mode_below (m - 1) p) (again_below p) i)
+      (after_state_below (Turn.choice cases defs call d a T false (m - 1) states p) (Turn.choice cases defs call d a' T' false (m - 1) states p) (T (key.Name (m - 1))) (T' (key.Name (m - 1)))
+      (choice_below false (m - 1) states p) (tb (key.Name (m - 1)))))
 
   reset_below : (o : Option (E × Place)) → RowBelow (Turn.reset_cell cases defs call d a T o) (Turn.reset_cell cases defs call d a' T' o)
   reset_below None = λ i x e. e
