@@ -5,7 +5,7 @@ use Rattle.kahn_model.proofs.Below.{none_some}
 use Rattle.kahn_model.proofs.Filling.{below_or_equal}
 use Rattle.kahn_model.proofs.Productive.{All, after_first_known, all_left, all_map, all_right, at_known, both_known, know_all_known, know_known, previous_known, some_known}
 use Rattle.kahn_model.proofs.Related.{in_choices, related}
-use Rattle.kahn_model.specs.Cells.{after_first, at, emitted, is_case, is_yes, say, value_in, values_in}
+use Rattle.kahn_model.specs.Cells.{after_first, emitted, is_case, is_yes, say, value_in, values_in}
 use Rattle.kahn_model.specs.Clocks.{choice_parts, is_function}
 use Rattle.kahn_model.specs.Functions.{Arg, Around, Meaning, Said, args_said, cells_at, clocks_said, def, given, param_in, row_of, stream}
 use Rattle.kahn_model.specs.Rows.{IsKnown, Row, either, know, know_all, previous}

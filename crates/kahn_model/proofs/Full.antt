@@ -6,16 +6,17 @@ use Rattle.kahn_model.proofs.Causal.{RisingTo, full_table}
 use Rattle.kahn_model.proofs.Monotone.{turn_below}
 use Rattle.kahn_model.proofs.Productive.{All, Kn, Read, Up, a_cell, all_map, at_known, clock_reads, know_known, on_known, reads, said_known, some_known}
 use Rattle.kahn_model.proofs.Solutions.{only_solution}
-use Rattle.kahn_model.specs.Cells.{at, part}
+use Rattle.kahn_model.specs.Cells.{part}
 use Rattle.kahn_model.specs.Clocks.{bare}
 use Rattle.kahn_model.specs.Fullness.{Full, HasKey}
-use Rattle.kahn_model.specs.Functions.{Arg, Around, Meaning, def, given, row_of, stream}
+use Rattle.kahn_model.specs.Functions.{Arg, Around, Meaning, def, given, stream}
 use Rattle.kahn_model.specs.Order.{ArgBelow, ArgsBelow, ClocksBelow, Monotone, TableBelow}
 use Rattle.kahn_model.specs.Rows.{IsKnown, Row}
 use Rattle.kahn_model.specs.Search.{nth, sites_of}
 use Rattle.kahn_model.specs.Table.{Rows, read, row_keys, written, written_row}
 use Rattle.kahn_model.specs.Turn.{E, Table}
 use Rattle.kahn_model.specs.declared.cell.Reach.{Reach}
+use Rattle.kahn_model.specs.declared.cell.Reach.TheVariants.{Here, Elsewhere, NoArm}
 use Rattle.kahn_model.specs.Values.{nil}
 use Rattle.kahn_model.specs.declared.cell.Cell.{Cell}
 use Rattle.kahn_model.specs.declared.cell.Cell.TheVariants.{Present, Silent}
@@ -28,10 +29,8 @@ use Rattle.ls_sig.specs.declared.places.Variable.{Variable}
 use Rattle.kahn_model.specs.Search
 use Rattle.kahn_model.specs.Table
 use Rattle.kahn_model.specs.Turn
-use Rattle.ls_sig.specs.declared.binder.Binder.TheVariants as b
 use Rattle.kahn_model.specs.declared.cell.Key.TheVariants as key
 use Rattle.ls_sig.specs.declared.places.Right.TheVariants as rhs
-use Rattle.kahn_model.specs.declared.cell.Value.TheVariants as v
 
 refl_clocks : (c : Option (ℕ → Row Bool)) → ClocksBelow c c
 refl_clocks None = tt

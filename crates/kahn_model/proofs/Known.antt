@@ -3,7 +3,7 @@ use Rattle.std.specs.Prelude.{ℕ, suc, ◌+◌, ◌-◌, ◌<◌, Bool, true, f
 use Rattle.std.proofs.Common.{arith, ap, ◌∙◌}
 use Rattle.kahn_model.proofs.Calls.{RowTo, either_known}
 use Rattle.kahn_model.proofs.Productive.{All, Earlier, after_first_known, at_known, both_known, know_known, previous_known, some_known}
-use Rattle.kahn_model.specs.Cells.{after_first, at, emitted, is_case, is_here, is_yes, restarts, say, value_in}
+use Rattle.kahn_model.specs.Cells.{after_first, emitted, is_case, is_here, is_yes, restarts, say, value_in}
 use Rattle.kahn_model.specs.Functions.{Around, Meaning}
 use Rattle.kahn_model.specs.Rows.{IsKnown, Row, both, either, know, previous}
 use Rattle.kahn_model.specs.Search.{start_of}
@@ -11,7 +11,6 @@ use Rattle.kahn_model.specs.Turn.{E, Table}
 use Rattle.kahn_model.specs.Values.{nil}
 use Rattle.kahn_model.specs.declared.cell.Cell.{Cell}
 use Rattle.kahn_model.specs.declared.cell.Cell.TheVariants.{Absent, Chosen, Present, Silent}
-use Rattle.kahn_model.specs.declared.cell.Key.{Key}
 use Rattle.kahn_model.specs.declared.cell.Reach.{Reach}
 use Rattle.kahn_model.specs.declared.cell.Reach.TheVariants.{Elsewhere, Here, NoArm}
 use Rattle.kahn_model.specs.declared.definition.Definition.{Definition}

@@ -13,7 +13,6 @@ use Rattle.kahn_model.specs.Turn.{E, Table}
 use Rattle.kahn_model.specs.Values.{case_of, eval, nil, or_else, tuple}
 use Rattle.kahn_model.specs.declared.cell.Cell.{Cell}
 use Rattle.kahn_model.specs.declared.cell.Cell.TheVariants.{Absent, Chosen, Present, Silent}
-use Rattle.kahn_model.specs.declared.cell.Key.{Key}
 use Rattle.kahn_model.specs.declared.cell.Reach.{Reach}
 use Rattle.kahn_model.specs.declared.cell.Reach.TheVariants.{Elsewhere, Here, NoArm}
 use Rattle.kahn_model.specs.declared.definition.Definition.{Definition}

@@ -4,7 +4,7 @@ use Rattle.std.proofs.Common.{ap, sym, ◌∙◌, subst, arith, inl, inr}
 use Rattle.kahn_model.proofs.Below.{none_some, search_on, search_step}
 use Rattle.kahn_model.proofs.Filling.{below_or_equal}
 use Rattle.kahn_model.proofs.Related.{in_choices, related}
-use Rattle.kahn_model.specs.Cells.{after_first, at, emitted, is_case, is_yes, say, value_in, values_in}
+use Rattle.kahn_model.specs.Cells.{after_first, at, emitted, is_case, say, value_in, values_in}
 use Rattle.kahn_model.specs.Clocks.{choice_parts}
 use Rattle.kahn_model.specs.Functions.{Arg, Around, Meaning, Said, cells_at, def, given, param_in, row_of, stream}
 use Rattle.kahn_model.specs.Rows.{IsKnown, Row, both, know, know_all, previous}

@@ -1,9 +1,7 @@
 -- Full tables: those in which every cell is known.
-use Rattle.std.specs.Prelude.{◌≡◌, ℕ, ◌<◌, Bool, true, List, [], ◌∷◌, Option, Some, ◌⊎◌}
-use Rattle.kahn_model.specs.declared.cell.Cell.{Cell}
+use Rattle.std.specs.Prelude.{◌≡◌, true, List, [], ◌∷◌, Option, ◌⊎◌}
 use Rattle.kahn_model.specs.declared.cell.Key.{Key}
 use Rattle.kahn_model.specs.Rows.{IsKnown}
-use Rattle.kahn_model.specs.Turn.{Table}
 use Rattle.kahn_model.specs.Table.{Rows, same_key}
 
 abbrev pub AllKnown : {A : Type 0} → List (Option A) → Type 0

@@ -1,8 +1,6 @@
 -- The order of what is known, for what stands for parameters, for what is around a body, and for tables.
 use Rattle.std.specs.Prelude.{◌≡◌, ℕ, Bool, List, [], ◌∷◌, Option, Some, None}
-use Rattle.kahn_model.specs.declared.cell.Cell.{Cell}
 use Rattle.kahn_model.specs.declared.cell.Key.{Key}
-use Rattle.kahn_model.specs.declared.definition.Definition.{Definition}
 use Rattle.kahn_model.specs.Rows.{Row, RowBelow}
 use Rattle.kahn_model.specs.Functions.{Arg, stream, def, given, Around, Meaning}
 use Rattle.kahn_model.specs.Turn.{Table}
