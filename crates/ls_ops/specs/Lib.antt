@@ -1,0 +1,3 @@
+pub mod Signature
+pub mod Symbols
+pub mod Values
