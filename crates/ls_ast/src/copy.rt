@@ -3,7 +3,8 @@
 ghost use Rattle.std.specs.Prelude.{◌≡◌, IfOk};
 
 use crate::tree::{
-    Arm, BodyOf, Case, DefOf, Equation, Expr, Form, Guard, Handler, Mark, Pat, Plain, State, Test,
+    Arm, BodyOf, Case, DefOf, Equation, Expr, FileOf, Form, Guard, Handler, Mark, Pat, Plain,
+    State, Test,
 };
 use ls_base::{Boxed, List, NoMemory, NoteCopy};
 use std::alloc::Global;
@@ -310,5 +311,14 @@ impl<N: NoteCopy> NoteCopy for DefOf<N> {
                 body: body.copy(alloc)?,
             }),
         }
+    }
+}
+
+impl<N: NoteCopy> NoteCopy for FileOf<N> {
+    fn copy(&self, alloc: Global) -> Result<FileOf<N>, NoMemory> {
+        Ok(FileOf {
+            defs: self.defs.copy(alloc)?,
+            names: self.names.copy(alloc)?,
+        })
     }
 }

@@ -2,8 +2,10 @@
 #![tactic(auto)]
 
 mod copy;
+mod depth;
 mod tree;
 
+pub use depth::height;
 pub use ls_base::NoteCopy;
 pub use tree::{
     Arm, BodyOf, Case, Def, DefOf, Equation, Expr, File, FileOf, Form, Guard, Handler, Mark, Pat,
