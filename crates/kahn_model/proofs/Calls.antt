@@ -10,7 +10,8 @@ use Rattle.kahn_model.specs.Clocks.{choice_parts, is_function}
 use Rattle.kahn_model.specs.Functions.{Arg, Around, Meaning, Said, args_said, cells_at, clocks_said, def, given, param_in, row_of, stream}
 use Rattle.kahn_model.specs.Rows.{IsKnown, Row, either, know, know_all, previous}
 use Rattle.kahn_model.specs.Search.{nth}
-use Rattle.kahn_model.specs.Turn.{E, Table}
+use Rattle.kahn_model.specs.Search.{E}
+use Rattle.kahn_model.specs.Turn.{Table}
 use Rattle.kahn_model.specs.Values.{case_of, eval, nil, tuple}
 use Rattle.kahn_model.specs.declared.cell.Cell.{Cell}
 use Rattle.kahn_model.specs.declared.cell.Cell.TheVariants.{Absent, Present}

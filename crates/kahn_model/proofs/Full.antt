@@ -14,7 +14,8 @@ use Rattle.kahn_model.specs.Order.{ArgBelow, ArgsBelow, ClocksBelow, Monotone, T
 use Rattle.kahn_model.specs.Rows.{IsKnown, Row}
 use Rattle.kahn_model.specs.Search.{nth, sites_of}
 use Rattle.kahn_model.specs.Table.{Rows, read, row_keys, written, written_row}
-use Rattle.kahn_model.specs.Turn.{E, Table}
+use Rattle.kahn_model.specs.Search.{E}
+use Rattle.kahn_model.specs.Turn.{Table}
 use Rattle.kahn_model.specs.declared.cell.Reach.{Reach}
 use Rattle.kahn_model.specs.declared.cell.Reach.TheVariants.{Here, Elsewhere, NoArm}
 use Rattle.kahn_model.specs.Values.{nil}

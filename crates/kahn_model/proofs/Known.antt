@@ -7,7 +7,8 @@ use Rattle.kahn_model.specs.Cells.{after_first, emitted, is_case, is_here, is_ye
 use Rattle.kahn_model.specs.Functions.{Around, Meaning}
 use Rattle.kahn_model.specs.Rows.{IsKnown, Row, both, either, know, previous}
 use Rattle.kahn_model.specs.Search.{start_of}
-use Rattle.kahn_model.specs.Turn.{E, Table}
+use Rattle.kahn_model.specs.Search.{E}
+use Rattle.kahn_model.specs.Turn.{Table}
 use Rattle.kahn_model.specs.Values.{nil}
 use Rattle.kahn_model.specs.declared.cell.Cell.{Cell}
 use Rattle.kahn_model.specs.declared.cell.Cell.TheVariants.{Absent, Chosen, Present, Silent}

@@ -4,13 +4,14 @@ use Rattle.std.proofs.Common.{ap, ap₂, sym, ◌∙◌, subst}
 use Rattle.kahn_model.proofs.Below.{AllBelow, below_refl, both_below, either_below, know_all_below, know_below, none_below, previous_below}
 use Rattle.kahn_model.proofs.Related.{in_choices, related}
 use Rattle.kahn_model.specs.Cells.{after_first, at, emitted, is_case, is_here, is_yes, part, restarts, say, value_in, values_in}
-use Rattle.kahn_model.specs.Clocks.{bare, is_function, meets, meets_all, noted}
+use Rattle.kahn_model.specs.Clocks.{bare, is_function, meets, meets_all}
 use Rattle.kahn_model.specs.Functions.{Arg, Around, Meaning, Said, arg_at, args_said, cells_at, clocks_said, def, given, has_name, param_in, part_arg, row_of, stream}
 use Rattle.kahn_model.specs.Order.{ArgBelow, ArgsBelow, AroundBelow, ClocksBelow, Monotone, TableBelow}
 use Rattle.kahn_model.specs.Rows.{Below, Row, RowBelow, either, know, know_all, previous}
 use Rattle.kahn_model.specs.Search.{nth, signal_in, sites_of, start_of}
-use Rattle.kahn_model.specs.Turn.{E, Table}
-use Rattle.kahn_model.specs.Values.{case_of, eval, nil, or_else, tuple}
+use Rattle.kahn_model.specs.Search.{E}
+use Rattle.kahn_model.specs.Turn.{Table}
+use Rattle.kahn_model.specs.Values.{case_of, eval, nil, tuple}
 use Rattle.kahn_model.specs.declared.cell.Cell.{Cell}
 use Rattle.kahn_model.specs.declared.cell.Cell.TheVariants.{Absent, Chosen, Present, Silent}
 use Rattle.kahn_model.specs.declared.cell.Reach.{Reach}
@@ -181,10 +182,10 @@ module _ (cases : ℕ → Option ℕ) (defs : List Definition) (call : Meaning) 
 
   on_layer : (y : ClockTerm-F WithOn) → RowBelow (step (map-ClockTerm ClockTerm (Row Bool) (fold-ClockTerm (Row Bool) step) (bare_terms y)))
       (step' (map-ClockTerm ClockTerm (Row Bool) (fold-ClockTerm (Row Bool) step') (bare_terms y)))
-  on_layer (ClockTerm-F.Var w) = if_rel RowBelow (Turn.in_signature cases defs call d a T w) (a.clocks w) (a'.clocks w)
-      (Turn.active_from cases defs call d a T a.active (Search.narrow (Turn.places_of cases defs call d a T w d.places.exprs)))
-      (Turn.active_from cases defs call d a' T' a'.active (Search.narrow (Turn.places_of cases defs call d a T w d.places.exprs)))
-      (ab.clocks w) (active_from_below a.active a'.active (Search.narrow (Turn.places_of cases defs call d a T w d.places.exprs)) ab.active)
+  on_layer (ClockTerm-F.Var w) = if_rel RowBelow (Search.in_signature d w) (a.clocks w) (a'.clocks w)
+      (Turn.active_from cases defs call d a T a.active (Search.home_of w d.places.exprs))
+      (Turn.active_from cases defs call d a' T' a'.active (Search.home_of w d.places.exprs))
+      (ab.clocks w) (active_from_below a.active a'.active (Search.home_of w d.places.exprs) ab.active)
   on_layer (ClockTerm-F.On p m k) = λ i. both_below (fold-ClockTerm (Row Bool) step p.0 i) (fold-ClockTerm (Row Bool) step' p.0 i)
       (say (is_case k) (Turn.case_row cases defs call d a T m i)) (say (is_case k) (Turn.case_row cases defs call d a' T' m i)) (p.1 i)
       (say_below (is_case k) (Turn.case_row cases defs call d a T m i) (Turn.case_row cases defs call d a' T' m i) (case_row_below m i))
@@ -500,7 +501,7 @@ module _ (cases : ℕ → Option ℕ) (defs : List Definition) (call : Meaning) 
   mode_on_below (Some ck) p = on_below ck
 
   abbrev ms : ℕ → Option ClockTerm
-  ms m = or_else (noted m (Turn.all_clocks cases defs call d a T d.places.exprs)) (noted (m + 1) (Turn.all_clocks cases defs call d a T d.places.exprs))
+  ms m = Search.mode_clock m d.places.exprs
 
   mode_below : (m : ℕ) (p : Place) → RowBelow (Turn.mode_here cases defs call d a T m p) (Turn.mode_here cases defs call d a' T' m p)
   mode_below m p = mode_on_below (ms m) p

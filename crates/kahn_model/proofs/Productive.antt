@@ -8,7 +8,8 @@ use Rattle.kahn_model.specs.Cells.{after_first, at, emitted, is_case, say, value
 use Rattle.kahn_model.specs.Clocks.{choice_parts}
 use Rattle.kahn_model.specs.Functions.{Arg, Around, Meaning, Said, cells_at, def, given, param_in, row_of, stream}
 use Rattle.kahn_model.specs.Rows.{IsKnown, Row, both, know, know_all, previous}
-use Rattle.kahn_model.specs.Turn.{E, Table}
+use Rattle.kahn_model.specs.Search.{E}
+use Rattle.kahn_model.specs.Turn.{Table}
 use Rattle.kahn_model.specs.Values.{case_of, eval, nil, tuple}
 use Rattle.kahn_model.specs.declared.cell.Cell.{Cell}
 use Rattle.kahn_model.specs.declared.cell.Cell.TheVariants.{Absent, Present}

@@ -17,9 +17,9 @@ use Rattle.kahn_model.specs.Values.{alarm}
 use Rattle.kahn_model.specs.Clocks.{any, form_parts, is_function}
 use Rattle.kahn_model.specs.Cells.{values_in, say, is_yes}
 use Rattle.kahn_model.specs.Functions.{Arg, Around, Meaning, Said, cells_at, args_said, clocks_said}
-use Rattle.kahn_model.specs.Search.{nth}
+use Rattle.kahn_model.specs.Search.{E, nth}
 use Rattle.kahn_model.specs.Turn
-use Rattle.kahn_model.specs.Turn.{E, Table}
+use Rattle.kahn_model.specs.Turn.{Table}
 use Rattle.kahn_model.specs.Table.{read, table_of, meaning, whole_run}
 
 -- whether an instant is alarmed

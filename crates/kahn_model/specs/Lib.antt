@@ -1,5 +1,4 @@
 pub mod Rows
-pub mod Operators
 pub mod Values
 pub mod Clocks
 pub mod Cells

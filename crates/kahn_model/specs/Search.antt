@@ -1,8 +1,9 @@
 -- Looking things up among what stands in a body.
-use Rattle.std.specs.Prelude.{ℕ, zero, suc, ◌==◌, ◌&&◌, Bool, true, false, List, [], ◌∷◌, Option, Some, None, if◌then◌else◌}
+use Rattle.std.specs.Prelude.{ℕ, zero, suc, ◌+◌, ◌==◌, ◌&&◌, Bool, true, false, List, [], ◌∷◌, ◌++◌, map, Option, Some, None, if◌then◌else◌}
 use Rattle.ls_value.specs.declared.leaf.Leaf.TheVariants as leaf
+use Rattle.ls_ast.specs.declared.tree.Expr.{Expr}
 use Rattle.ls_terms.specs.declared.term.ClockTerm.{ClockTerm}
-use Rattle.ls_sig.specs.Places.{InnerArm}
+use Rattle.ls_sig.specs.Places.{Place, InnerArm, arms}
 use Rattle.ls_sig.specs.declared.binder.Binder.{Binder}
 use Rattle.ls_sig.specs.declared.binder.Binder.TheVariants as b
 use Rattle.ls_sig.specs.declared.binder.Note.{Note}
@@ -16,9 +17,13 @@ use Rattle.kahn_model.specs.declared.cell.Reach.{Reach}
 use Rattle.kahn_model.specs.declared.cell.Reach.TheVariants.{Here, Elsewhere, NoArm}
 use Rattle.kahn_model.specs.declared.cell.Value.{Value}
 use Rattle.kahn_model.specs.declared.cell.Value.TheVariants as v
-use Rattle.kahn_model.specs.Clocks.{mentions, names_in}
+use Rattle.kahn_model.specs.declared.definition.Definition.{Definition}
+use Rattle.kahn_model.specs.Clocks.{any, mentions, names_in, noted, clocks_in}
 use Rattle.kahn_model.specs.Functions.{has_name}
-use Rattle.kahn_model.specs.Values.{nil, case_of}
+use Rattle.kahn_model.specs.Values.{or_else, nil, case_of}
+
+abbrev pub E : Type 0
+E = Expr Note
 
 abbrev pub same_number : ℕ → ℕ → Bool
 same_number j k = j == k
@@ -59,6 +64,27 @@ abbrev pub narrow : List (List InnerArm) → List InnerArm
 narrow [] = []
 narrow (p ∷ []) = p
 narrow (p ∷ ps) = common p (narrow ps)
+
+-- whether a clock variable stands in a definition's signature
+abbrev pub in_signature : Definition → ℕ → Bool
+in_signature d w = any (map (mentions w) (d.result.note.ck ∷ d.clocks))
+
+-- the arms around the places where a clock variable occurs
+abbrev pub places_of : ℕ → List (E × Place) → List (List InnerArm)
+places_of w [] = []
+places_of w (ep ∷ all) = term_places w (arms ep.1) (clocks_in ep.0) ++ places_of w all
+
+-- the smallest arm that holds all of them
+abbrev pub home_of : ℕ → List (E × Place) → List InnerArm
+home_of w all = narrow (places_of w all)
+
+abbrev pub all_clocks : List (E × Place) → List ClockTerm
+all_clocks [] = []
+all_clocks (ep ∷ all) = clocks_in ep.0 ++ all_clocks all
+
+-- the clock of an automaton with the clock names `m` and `m + 1`, where a clock is sampled on one of them
+abbrev pub mode_clock : ℕ → List (E × Place) → Option ClockTerm
+mode_clock m all = or_else (noted m (all_clocks all)) (noted (m + 1) (all_clocks all))
 
 -- ---- variables and arms
 

@@ -4,7 +4,7 @@ use Rattle.std.specs.Prelude.{ℕ, suc, ◌+◌, ◌-◌, Bool, true, false, Lis
 use Rattle.ls_value.specs.declared.leaf.Leaf.TheVariants as leaf
 use Rattle.ls_ast.specs.declared.tree.Case.{Case}
 use Rattle.ls_ast.specs.declared.tree.Case.TheVariants as case
-use Rattle.ls_ast.specs.declared.tree.Expr.{Expr, Expr-F, fold-Expr}
+use Rattle.ls_ast.specs.declared.tree.Expr.{Expr-F, fold-Expr}
 use Rattle.ls_ast.specs.declared.tree.Form.TheOpen.{Form-F}
 use Rattle.ls_terms.specs.declared.term.ClockTerm.{ClockTerm, fold-ClockTerm, out-ClockTerm}
 use Rattle.ls_terms.specs.declared.term.ClockTerm.TheOpen.{ClockTerm-F}
@@ -30,23 +30,17 @@ use Rattle.kahn_model.specs.declared.cell.Reach.TheVariants.{Here}
 use Rattle.kahn_model.specs.declared.cell.Value.TheVariants as v
 use Rattle.kahn_model.specs.declared.definition.Definition.{Definition}
 use Rattle.kahn_model.specs.Rows.{Row, know, know_all, either, both, previous}
-use Rattle.kahn_model.specs.Values.{or_else, nil, tuple, case_of, eval}
-use Rattle.kahn_model.specs.Clocks.{any, mentions, bare, noted, meets, meets_all, clocks_in, is_function}
+use Rattle.kahn_model.specs.Values.{nil, tuple, case_of, eval}
+use Rattle.kahn_model.specs.Clocks.{bare, meets, meets_all, is_function}
 use Rattle.kahn_model.specs.Cells.{is_case, restarts, is_yes, emitted, is_here, value_in, values_in, say, part, at, after_first}
 use Rattle.kahn_model.specs.Functions.{Arg, stream, def, given, Around, Meaning, Said, nowhere, never_on, row_of, give_args, arg_at, param_in, cells_at, args_said, clocks_said}
-use Rattle.kahn_model.specs.Search.{same_number, and, narrow, term_places, nth, sites_of, start_of, signal_in, state_of, chosen_arm, by_reach, yes_or, reach_case, guards_of, case_value}
+use Rattle.kahn_model.specs.Search.{same_number, and, E, nth, in_signature, home_of, mode_clock, sites_of, start_of, signal_in, state_of, chosen_arm, by_reach, yes_or, reach_case, guards_of, case_value}
 
 abbrev pub Table : Type 0
 Table = Key → Row Cell
 
-abbrev pub E : Type 0
-E = Expr Note
-
 -- the meaning of a body, given that of the calls in it and the table before
 module _ (cases : ℕ → Option ℕ) (defs : List Definition) (call : Meaning) (d : Definition) (a : Around) (T : Table) where
-  abbrev pub first : ℕ
-  first = length d.params
-
   -- ---- what is around a place
 
   -- where a place is active: its innermost arm is the one that its block chooses
@@ -75,21 +69,12 @@ module _ (cases : ℕ → Option ℕ) (defs : List Definition) (call : Meaning) 
   named_row _ m = T (key.Name m)
 
   abbrev pub case_row : ℕ → Row Cell
-  case_row m = if nat_lt m first then row_of (arg_at m a.args) else named_row (nth d.places.names (m - first)) m
-
-  -- whether a clock variable stands in the definition's signature
-  abbrev pub in_signature : ℕ → Bool
-  in_signature w = any (map (mentions w) (d.result.note.ck ∷ d.clocks))
-
-  -- the arms around the places where a clock variable occurs
-  abbrev pub places_of : ℕ → List (E × Place) → List (List InnerArm)
-  places_of w [] = []
-  places_of w (ep ∷ all) = term_places w (arms ep.1) (clocks_in ep.0) ++ places_of w all
+  case_row m = if nat_lt m (length d.params) then row_of (arg_at m a.args) else named_row (nth d.places.names (m - length d.params)) m
 
   -- A clock variable of the signature is on as the context says, any other where the smallest arm that holds all its
   -- occurrences is active. A sampled clock is on where the clock is and its name says the case.
   abbrev pub on_step : ClockTerm-F (Row Bool) → Row Bool
-  on_step (ClockTerm-F.Var w) i = (if in_signature w then a.clocks w else active_from a.active (narrow (places_of w d.places.exprs))) i
+  on_step (ClockTerm-F.Var w) i = (if in_signature d w then a.clocks w else active_from a.active (home_of w d.places.exprs)) i
   on_step (ClockTerm-F.On ck m k) i = both (ck i) (say (is_case k) (case_row m i))
   on_step ClockTerm-F.Pointwise i = Some false
   on_step (ClockTerm-F.Arrow cks ck) i = Some false
@@ -267,17 +252,13 @@ module _ (cases : ℕ → Option ℕ) (defs : List Definition) (call : Meaning) 
 
   -- ---- blocks and automata
 
-  abbrev pub all_clocks : List (E × Place) → List ClockTerm
-  all_clocks [] = []
-  all_clocks (ep ∷ all) = clocks_in ep.0 ++ all_clocks all
-
   -- an automaton is on where the clock is that its names sample; where no clock samples them, where its place is active
   abbrev pub mode_on : Option ClockTerm → Place → Row Bool
   mode_on None p = active p
   mode_on (Some ck) p = on ck
 
   abbrev pub mode_here : ℕ → Place → Row Bool
-  mode_here m p = mode_on (or_else (noted m (all_clocks d.places.exprs)) (noted (m + 1) (all_clocks d.places.exprs))) p
+  mode_here m p = mode_on (mode_clock m d.places.exprs) p
 
   -- the target of the first true guard, and else the other cell
   abbrev pub first_true : List (ℕ × List (Transition Note)) → Place → Option Cell → List (Transition Note) → Row Cell
@@ -329,7 +310,7 @@ module _ (cases : ℕ → Option ℕ) (defs : List Definition) (call : Meaning) 
   abbrev pub turn : Table
   turn (key.Var x) = variable_cell x (nth d.places.vars x)
   turn (key.Start x) = start_of_variable (nth d.places.vars x)
-  turn (key.Name m) = name_cell m (nth d.places.names (m - first))
+  turn (key.Name m) = name_cell m (nth d.places.names (m - length d.params))
   turn (key.Reset r) = reset_cell (nth d.places.resets r)
 
   -- the row of the body's result

@@ -2,15 +2,15 @@
 use Rattle.std.specs.Prelude.{ℕ, ◌==◌, ◌&&◌, ◌||◌, Bool, true, false, List, [], ◌∷◌, ◌++◌, map, Option, Some, None, if◌then◌else◌}
 use Rattle.ls_value.specs.declared.leaf.Leaf.{Leaf}
 use Rattle.ls_value.specs.declared.leaf.Leaf.TheVariants as leaf
-use Rattle.ls_ops.specs.declared.Op.{Op}
-use Rattle.ls_ops.specs.declared.Op.TheVariants as op
+use Rattle.ls_ops.specs.declared.kinds.Op.{Op}
+use Rattle.ls_ops.specs.declared.kinds.Op.TheVariants as op
 use Rattle.ls_ast.specs.declared.tree.Pat.{Pat, fold-Pat}
 use Rattle.ls_ast.specs.declared.tree.Pat.TheOpen.{Pat-F}
 use Rattle.ls_sig.specs.Patterns.{joined}
 use Rattle.kahn_model.specs.declared.cell.Value.{Value, fold-Value, out-Value}
 use Rattle.kahn_model.specs.declared.cell.Value.TheOpen.{Value-F}
 use Rattle.kahn_model.specs.declared.cell.Value.TheVariants as v
-use Rattle.kahn_model.specs.Operators.{value_of, alarm_of}
+use Rattle.ls_ops.specs.Values.{value_of, alarm_of}
 
 -- the missing value
 abbrev pub nil : Value
