@@ -10,3 +10,4 @@ pub mod Alarm
 pub mod Program
 pub mod Order
 pub mod Fullness
+pub mod Laws

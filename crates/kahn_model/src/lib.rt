@@ -3,6 +3,7 @@
 
 mod cell;
 mod definition;
+pub mod laws;
 
 pub use cell::{Cell, Key, Reach, Value};
 pub use definition::Definition;
