@@ -1,8 +1,9 @@
 -- The rows of variables, blocks and places are known where what they are made of is.
 use Rattle.std.specs.Prelude.{ℕ, suc, ◌+◌, ◌-◌, ◌<◌, Bool, true, false, List, [], ◌∷◌, ◌++◌, Option, Some, None, if◌then◌else◌}
 use Rattle.std.proofs.Common.{arith, ap, ◌∙◌}
-use Rattle.kahn_model.proofs.Calls.{RowTo, either_known}
-use Rattle.kahn_model.proofs.Productive.{All, Earlier, after_first_known, at_known, both_known, know_known, previous_known, some_known}
+use Rattle.kahn_model.proofs.Knowing.{Earlier, after_first_known, at_known, both_known, either_known, know_known, previous_known, some_known}
+use Rattle.kahn_model.specs.Causality.{RowTo}
+use Rattle.kahn_model.specs.Fullness.{All}
 use Rattle.kahn_model.specs.Cells.{after_first, emitted, is_case, is_here, is_yes, restarts, say, value_in}
 use Rattle.kahn_model.specs.Functions.{Around, Meaning}
 use Rattle.kahn_model.specs.Rows.{IsKnown, Row, both, either, know, previous}

@@ -5,7 +5,6 @@ pub mod Solutions
 pub mod Filling
 pub mod Causal
 pub mod Pointwise
-pub mod Productive
-pub mod Full
-pub mod Calls
+pub mod Knowing
 pub mod Known
+pub mod Presence

@@ -11,3 +11,5 @@ pub mod Program
 pub mod Order
 pub mod Fullness
 pub mod Laws
+pub mod Reads
+pub mod Causality
