@@ -8,3 +8,4 @@ pub mod Pointwise
 pub mod Knowing
 pub mod Known
 pub mod Presence
+pub mod Expressions

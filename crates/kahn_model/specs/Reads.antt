@@ -183,16 +183,16 @@ module _ (d : Definition) (shapes : List Shape) where
   head_shape bound x = look_shape bound x
 
   -- a call reads all its arguments and their clocks; a function value that is only passed makes no call
-  abbrev pub called : Note → ℕ → List Reading → Option Reading → Formed
-  called n x args every = record {
+  abbrev pub called : Note → Binder → ℕ → List Reading → Option Reading → Formed
+  called n bound x args every = record {
       needs = together (record {
-          now = bound_keys n.bound ++ clocks_keys (clocks_read args ++ n.ck ∷ []); before = [];
-          calls = if is_function n then [] else calls_of (head_shape n.bound x) (shapes_read args) })
+          now = bound_keys bound ++ clocks_keys (clocks_read args ++ n.ck ∷ []); before = [];
+          calls = if is_function n then [] else calls_of (head_shape bound x) (shapes_read args) })
         (together (all_needs args) (every_needs every));
-      shape = if is_function n then give_shapes (head_shape n.bound x) (shapes_read args) else a_stream }
+      shape = if is_function n then give_shapes (head_shape bound x) (shapes_read args) else a_stream }
 
   abbrev pub used : Note → Binder → ℕ → Formed
-  used n (b.Def k) x = called (record n { bound = b.Def k }) x [] None
+  used n (b.Def k) x = called n (b.Def k) x [] None
   used n bound x = record { needs = now_only (bound_keys bound); shape = look_shape bound x }
 
   abbrev pub a_row : Needs → Formed
@@ -212,7 +212,7 @@ module _ (d : Definition) (shapes : List Shape) where
   form_reading (Form-F.Init x y) n = a_row (together x.needs y.needs)
   form_reading (Form-F.When e x k) n = a_row e.needs
   form_reading (Form-F.Merge x choices) n = a_row (together (now_only (bound_keys n.bound)) (all_needs (choice_parts choices)))
-  form_reading (Form-F.Call run head args every) n = called n head.0 args every
+  form_reading (Form-F.Call run head args every) n = called n n.bound head.0 args every
 
   -- every expression reads the names in its own clock
   abbrev pub expr_reading : Expr-F Note (Note → Formed) Reading → Reading
