@@ -32,6 +32,7 @@ use Rattle.kahn_model.specs.Reads
 use Rattle.kahn_model.specs.Reads.{Shape, a_stream, a_function, with_argument, shape_of, shapes_of, give_shapes, param_shape, Call, calls_of, Needs, Formed, Reading, together, earlier, nothing, now_only, all_needs, every_needs, shapes_read, clocks_read, bound_keys}
 use Rattle.kahn_model.proofs.Filling.{below_or_equal}
 use Rattle.kahn_model.proofs.Knowing.{all_append, all_left, all_right, all_map, after_first_known, at_known, either_known, know_all_known, know_known, previous_known, some_known}
+use Rattle.kahn_model.proofs.Needed.{Kn, Met, met_left, met_right, met_to, met_earlier}
 use Rattle.kahn_model.proofs.Presence.{row_known, on_known, look_known, head_known, say_known}
 use Rattle.kahn_model.proofs.Related
 use Rattle.kahn_model.proofs.Related.{in_choices, related}
@@ -71,49 +72,11 @@ all_now i = all_map (ArgTo i) (ArgAt i) (λ x f. f i (omega arith))
 
 module _ (cases : ℕ → Option ℕ) (defs : List Definition) (call : Meaning) (Ok : Call → Type 0) (d : Definition) (a : Around) (T : Table) (top : ℕ) (around : AroundTo top a)
     (calls : (k i : ℕ) → i ≤ top → (c : Around) → Ok (k, shapes_of c.args) → AroundTo i c → IsKnown (call k c i)) where
-  abbrev Kn : ℕ → Key → Type 0
-  Kn i k = IsKnown (T k i)
+  abbrev Met' : ℕ → Needs → Type 0
+  Met' = Met Ok T
 
-  abbrev Up : ℕ → Key → Type 0
-  Up i k = (j : ℕ) → j < i → IsKnown (T k j)
-
-  -- what is needed at an instant is known
-  pub record Met (i : ℕ) (r : Needs) : Type 0 where
-    pub was_now : All (Up i) r.now
-    pub was_before : All (Up i) r.before
-    pub is_now : All (Kn i) r.now
-    pub ok : All Ok r.calls
-
-  pub met_left : (i : ℕ) (r s : Needs) → Met i (together r s) → Met i r
-  met_left i r s m = record {
-      was_now = all_left (Up i) r.now s.now m.was_now; was_before = all_left (Up i) r.before s.before m.was_before;
-      is_now = all_left (Kn i) r.now s.now m.is_now; ok = all_left Ok r.calls s.calls m.ok }
-
-  pub met_right : (i : ℕ) (r s : Needs) → Met i (together r s) → Met i s
-  met_right i r s m = record {
-      was_now = all_right (Up i) r.now s.now m.was_now; was_before = all_right (Up i) r.before s.before m.was_before;
-      is_now = all_right (Kn i) r.now s.now m.is_now; ok = all_right Ok r.calls s.calls m.ok }
-
-  up_less : (i j : ℕ) → j < i → (ks : List Key) → All (Up i) ks → All (Up j) ks
-  up_less i j l = all_map (Up i) (Up j) (λ k f m q. f m (omega (arith, l, q)))
-
-  up_at : (i j : ℕ) → j < i → (ks : List Key) → All (Up i) ks → All (Kn j) ks
-  up_at i j l = all_map (Up i) (Kn j) (λ k f. f j l)
-
-  pub met_sooner : (i j : ℕ) (r : Needs) → j < i → Met i r → Met j r
-  met_sooner i j r l m = record {
-      was_now = up_less i j l r.now m.was_now; was_before = up_less i j l r.before m.was_before;
-      is_now = up_at i j l r.now m.was_now; ok = m.ok }
-
-  pub met_to : (i j : ℕ) (r : Needs) → j ≤ i → Met i r → Met j r
-  met_to i j r l m = elim (below_or_equal j i (omega (arith, l))) [ inl p ↦ met_sooner i j r p m | inr e ↦ subst (λ y. Met y r) (sym e) m ]
-
-  pub met_earlier : (i j : ℕ) (r : Needs) → j < i → Met i (earlier r) → Met j r
-  met_earlier i j r l m =
-      let now' = all_left (Up i) r.now r.before m.was_before in
-      record {
-      was_now = up_less i j l r.now now'; was_before = up_less i j l r.before (all_right (Up i) r.now r.before m.was_before);
-      is_now = up_at i j l r.now now'; ok = m.ok }
+  abbrev Kn' : ℕ → Key → Type 0
+  Kn' = Kn Ok T
 
   abbrev shapes : List Shape
   shapes = shapes_of a.args
@@ -124,10 +87,10 @@ module _ (cases : ℕ → Option ℕ) (defs : List Definition) (call : Meaning) 
   abbrev keys : ClockTerm → List Key
   keys = Reads.clock_keys d shapes
 
-  pub clock_known : (ck : ClockTerm) (i : ℕ) → i ≤ top → All (Kn i) (keys ck) → IsKnown (on' ck i)
+  pub clock_known : (ck : ClockTerm) (i : ℕ) → i ≤ top → All (Kn' i) (keys ck) → IsKnown (on' ck i)
   clock_known ck i t q = on_known cases defs call d a T top around shapes ck i t q
 
-  looked : (bound : Binder) (x i : ℕ) → i ≤ top → All (Kn i) (bound_keys bound) → ArgAt i (Turn.look cases defs call d a T bound x)
+  looked : (bound : Binder) (x i : ℕ) → i ≤ top → All (Kn' i) (bound_keys bound) → ArgAt i (Turn.look cases defs call d a T bound x)
   looked bound x i t q = look_known cases defs call d a T top around shapes bound x i t q
 
   look_shape_is : (bound : Binder) (x : ℕ) → shape_of (Turn.look cases defs call d a T bound x) ≡ Reads.look_shape d shapes bound x
@@ -166,10 +129,10 @@ module _ (cases : ℕ → Option ℕ) (defs : List Definition) (call : Meaning) 
     OnTo ck i = (j : ℕ) → j ≤ i → IsKnown (on' ck j)
 
     abbrev Holds : Said → Reading → Type 0
-    Holds s r = (s.note ≡ r.note) × (shape_of s.arg ≡ r.shape) × ((i : ℕ) → i ≤ top → Met i r.needs → ArgAt i s.arg)
+    Holds s r = (s.note ≡ r.note) × (shape_of s.arg ≡ r.shape) × ((i : ℕ) → i ≤ top → Met' i r.needs → ArgAt i s.arg)
 
     abbrev HoldsF : (Note → Arg) → (Note → Formed) → Type 0
-    HoldsF f r = (n : Note) → (shape_of (f n) ≡ (r n).shape) × ((i : ℕ) → i ≤ top → OnTo n.ck i → Met i (r n).needs → ArgAt i (f n))
+    HoldsF f r = (n : Note) → (shape_of (f n) ≡ (r n).shape) × ((i : ℕ) → i ≤ top → OnTo n.ck i → Met' i (r n).needs → ArgAt i (f n))
 
     abbrev TwoF : Type 0
     TwoF = (f : Note → Arg) × (r : Note → Formed) × HoldsF f r
@@ -201,24 +164,24 @@ module _ (cases : ℕ → Option ℕ) (defs : List Definition) (call : Meaning) 
     abbrev rs : List TwoS → List Reading
     rs = map {A = TwoS} {B = Reading} (λ p. p.1)
 
-    is_known : (p : TwoS) (i : ℕ) → i ≤ top → Met i p.1.needs → IsKnown (row_of p.0.arg i)
+    is_known : (p : TwoS) (i : ℕ) → i ≤ top → Met' i p.1.needs → IsKnown (row_of p.0.arg i)
     is_known p i t m = row_known i p.0.arg (p.2.2 i t m)
 
-    arg_to : (p : TwoS) (i : ℕ) → i ≤ top → Met i p.1.needs → ArgTo i p.0.arg
-    arg_to p i t m j l = p.2.2 j (omega (arith, l, t)) (met_to i j p.1.needs l m)
+    arg_to : (p : TwoS) (i : ℕ) → i ≤ top → Met' i p.1.needs → ArgTo i p.0.arg
+    arg_to p i t m j l = p.2.2 j (omega (arith, l, t)) (met_to Ok T i j p.1.needs l m)
 
-    all_cells : (ps : List TwoS) (i : ℕ) → i ≤ top → Met i (all_needs (rs ps)) → All IsKnown (cells_at i (ls ps))
+    all_cells : (ps : List TwoS) (i : ℕ) → i ≤ top → Met' i (all_needs (rs ps)) → All IsKnown (cells_at i (ls ps))
     all_cells [] i t m = tt
     all_cells (p ∷ ps) i t m = (
-      is_known p i t (met_left i p.1.needs (all_needs (rs ps)) m),
-      all_cells ps i t (met_right i p.1.needs (all_needs (rs ps)) m),
+      is_known p i t (met_left Ok T i p.1.needs (all_needs (rs ps)) m),
+      all_cells ps i t (met_right Ok T i p.1.needs (all_needs (rs ps)) m),
     )
 
-    args_to : (ps : List TwoS) (i : ℕ) → i ≤ top → Met i (all_needs (rs ps)) → All (ArgTo i) (args_said (ls ps))
+    args_to : (ps : List TwoS) (i : ℕ) → i ≤ top → Met' i (all_needs (rs ps)) → All (ArgTo i) (args_said (ls ps))
     args_to [] i t m = tt
     args_to (p ∷ ps) i t m = (
-      arg_to p i t (met_left i p.1.needs (all_needs (rs ps)) m),
-      args_to ps i t (met_right i p.1.needs (all_needs (rs ps)) m),
+      arg_to p i t (met_left Ok T i p.1.needs (all_needs (rs ps)) m),
+      args_to ps i t (met_right Ok T i p.1.needs (all_needs (rs ps)) m),
     )
 
     cks_same : (ps : List TwoS) → clocks_read (rs ps) ≡ clocks_said (ls ps)
@@ -241,13 +204,13 @@ module _ (cases : ℕ → Option ℕ) (defs : List Definition) (call : Meaning) 
     if_known true r s i p q = p
     if_known false r s i p q = q
 
-    branch_known : (k : ℕ) (cs : List (Case × TwoS)) (i : ℕ) → i ≤ top → Met i (all_needs (rcs cs)) → IsKnown (Turn.branch cases defs call d a T k (lcs cs) i)
+    branch_known : (k : ℕ) (cs : List (Case × TwoS)) (i : ℕ) → i ≤ top → Met' i (all_needs (rcs cs)) → IsKnown (Turn.branch cases defs call d a T k (lcs cs) i)
     branch_known k [] i t m = some_known Absent
     branch_known k (c ∷ cs) i t m = if_known (unwrap_or (option_map (λ j. Search.same_number j k) (Turn.case_number cases defs call d a T c.0)) false)
         (row_of c.1.0.arg) (Turn.branch cases defs call d a T k (lcs cs)) i
-        (is_known c.1 i t (met_left i c.1.1.needs (all_needs (rcs cs)) m)) (branch_known k cs i t (met_right i c.1.1.needs (all_needs (rcs cs)) m))
+        (is_known c.1 i t (met_left Ok T i c.1.1.needs (all_needs (rcs cs)) m)) (branch_known k cs i t (met_right Ok T i c.1.1.needs (all_needs (rcs cs)) m))
 
-    merged_known : (cs : List (Case × TwoS)) (i : ℕ) → i ≤ top → Met i (all_needs (rcs cs)) → (o : Option ℕ) → IsKnown (Turn.merged_case cases defs call d a T (lcs cs) i o)
+    merged_known : (cs : List (Case × TwoS)) (i : ℕ) → i ≤ top → Met' i (all_needs (rcs cs)) → (o : Option ℕ) → IsKnown (Turn.merged_case cases defs call d a T (lcs cs) i o)
     merged_known cs i t m None = some_known (Present nil)
     merged_known cs i t m (Some k) = branch_known k cs i t m
 
@@ -257,8 +220,8 @@ module _ (cases : ℕ → Option ℕ) (defs : List Definition) (call : Meaning) 
         let y = after_first_known i c r e.0 e.2 p q in
         (y.0, ap (λ z. know z (after_first c r)) e.1 ∙ y.1)
 
-    was_known : (p : TwoS) (i : ℕ) → i ≤ top → Met i (earlier p.1.needs) → (j : ℕ) → j < i → IsKnown (row_of p.0.arg j)
-    was_known p i t m j l = is_known p j (omega (arith, l, t)) (met_earlier i j p.1.needs l m)
+    was_known : (p : TwoS) (i : ℕ) → i ≤ top → Met' i (earlier p.1.needs) → (j : ℕ) → j < i → IsKnown (row_of p.0.arg j)
+    was_known p i t m j l = is_known p j (omega (arith, l, t)) (met_earlier Ok T i j p.1.needs l m)
 
     -- ---- calls
 
@@ -270,7 +233,7 @@ module _ (cases : ℕ → Option ℕ) (defs : List Definition) (call : Meaning) 
     right_every None = None
     right_every (Some p) = Some p.1
 
-    every_to : (s : Option TwoS) (i : ℕ) → i ≤ top → Met i (every_needs (right_every s)) → RowTo i (Turn.every_too cases defs call d a T rst (left_every s))
+    every_to : (s : Option TwoS) (i : ℕ) → i ≤ top → Met' i (every_needs (right_every s)) → RowTo i (Turn.every_too cases defs call d a T rst (left_every s))
     every_to None i t m j l = rst_known j (omega (arith, l, t))
     every_to (Some p) i t m j l = either_known (rst j) (say is_yes (row_of p.0.arg j)) (rst_known j (omega (arith, l, t)))
         (say_known cases defs call d a T top around shapes is_yes (row_of p.0.arg j) (row_known j p.0.arg (arg_to p i t m j l)))
@@ -280,38 +243,38 @@ module _ (cases : ℕ → Option ℕ) (defs : List Definition) (call : Meaning) 
         now = bound_keys bound ++ Reads.clocks_keys d shapes (clocks_read args ++ n.ck ∷ []); before = [];
         calls = if is_function n then [] else calls_of (Reads.head_shape d shapes bound x) (shapes_read args) }
 
-    head_at : (n : Note) (bound : Binder) (x : ℕ) (ps : List TwoS) (i : ℕ) → i ≤ top → Met i (head_needs n bound x (rs ps))
+    head_at : (n : Note) (bound : Binder) (x : ℕ) (ps : List TwoS) (i : ℕ) → i ≤ top → Met' i (head_needs n bound x (rs ps))
         → ArgAt i (Turn.head_of cases defs call d a T bound n.ck x (clocks_said (ls ps)))
     head_at n bound x ps i t m = head_known cases defs call d a T top around shapes bound n.ck x i t (clocks_said (ls ps))
-        (all_left (Kn i) (bound_keys bound) (Reads.clocks_keys d shapes (clocks_read (rs ps) ++ n.ck ∷ [])) m.is_now)
-        (subst (λ cks. All (Kn i) (joined (map keys (cks ++ n.ck ∷ [])))) (cks_same ps)
-          (all_right (Kn i) (bound_keys bound) (Reads.clocks_keys d shapes (clocks_read (rs ps) ++ n.ck ∷ [])) m.is_now))
+        (all_left (Kn' i) (bound_keys bound) (Reads.clocks_keys d shapes (clocks_read (rs ps) ++ n.ck ∷ [])) m.is_now)
+        (subst (λ cks. All (Kn' i) (joined (map keys (cks ++ n.ck ∷ [])))) (cks_same ps)
+          (all_right (Kn' i) (bound_keys bound) (Reads.clocks_keys d shapes (clocks_read (rs ps) ++ n.ck ∷ [])) m.is_now))
 
-    head_to : (n : Note) (bound : Binder) (x : ℕ) (ps : List TwoS) (i : ℕ) → i ≤ top → Met i (head_needs n bound x (rs ps))
+    head_to : (n : Note) (bound : Binder) (x : ℕ) (ps : List TwoS) (i : ℕ) → i ≤ top → Met' i (head_needs n bound x (rs ps))
         → ArgTo i (Turn.head_of cases defs call d a T bound n.ck x (clocks_said (ls ps)))
-    head_to n bound x ps i t m j l = head_at n bound x ps j (omega (arith, l, t)) (met_to i j (head_needs n bound x (rs ps)) l m)
+    head_to n bound x ps i t m j l = head_at n bound x ps j (omega (arith, l, t)) (met_to Ok T i j (head_needs n bound x (rs ps)) l m)
 
     by_function : (i : ℕ) (t : Bool) (x : Arg) (r : Row Cell) (cs : List Call) → ArgAt i x → (All Ok cs → IsKnown (r i)) → All Ok (if t then [] else cs) → ArgAt i (if t then x else stream r)
     by_function i true x r cs p q o = p
     by_function i false x r cs p q o = q o
 
     call_holds : (n : Note) (bound : Binder) (x : ℕ) (ps : List TwoS) (s : Option TwoS) (i : ℕ) → i ≤ top → OnTo n.ck i
-        → Met i (Reads.called d shapes n bound x (rs ps) (right_every s)).needs
+        → Met' i (Reads.called d shapes n bound x (rs ps) (right_every s)).needs
         → ArgAt i (Turn.called cases defs call d a T act rst n (Turn.head_of cases defs call d a T bound n.ck x (clocks_said (ls ps))) (ls ps) (left_every s))
     call_holds n bound x ps s i t o m =
         let f : Arg = Turn.head_of cases defs call d a T bound n.ck x (clocks_said (ls ps)) in
         let xs : List Arg = args_said (ls ps) in
         let more : Needs = together (all_needs (rs ps)) (every_needs (right_every s)) in
-        let head : Met i (head_needs n bound x (rs ps)) = met_left i (head_needs n bound x (rs ps)) more m in
-        let rest : Met i more = met_right i (head_needs n bound x (rs ps)) more m in
+        let head : Met' i (head_needs n bound x (rs ps)) = met_left Ok T i (head_needs n bound x (rs ps)) more m in
+        let rest : Met' i more = met_right Ok T i (head_needs n bound x (rs ps)) more m in
         let fk : ArgTo i f = head_to n bound x ps i t head in
-        let xk : All (ArgTo i) xs = args_to ps i t (met_left i (all_needs (rs ps)) (every_needs (right_every s)) rest) in
+        let xk : All (ArgTo i) xs = args_to ps i t (met_left Ok T i (all_needs (rs ps)) (every_needs (right_every s)) rest) in
         by_function i (is_function n) (Functions.give_args f xs)
           (Turn.apply cases defs call d a T f xs (on' n.ck) act (Turn.every_too cases defs call d a T rst (left_every s)))
           (calls_of (Reads.head_shape d shapes bound x) (shapes_read (rs ps)))
           (give_at i f xs (fk i (omega arith)) (all_now i xs xk))
           (λ ok. apply_known i t f xs (on' n.ck) act (Turn.every_too cases defs call d a T rst (left_every s)) fk xk o (λ j l. act_known j (omega (arith, l, t)))
-            (every_to s i t (met_right i (all_needs (rs ps)) (every_needs (right_every s)) rest))
+            (every_to s i t (met_right Ok T i (all_needs (rs ps)) (every_needs (right_every s)) rest))
             (subst (λ h. All Ok (calls_of h (shapes_of xs))) (sym (head_shape_is bound n.ck x (clocks_said (ls ps))))
               (subst (λ ss. All Ok (calls_of (Reads.head_shape d shapes bound x) ss)) (sym (shapes_same ps)) ok)))
           head.ok
@@ -326,7 +289,7 @@ module _ (cases : ℕ → Option ℕ) (defs : List Definition) (call : Meaning) 
           (give_shapes (Reads.head_shape d shapes bound x) (shapes_read (rs ps))) a_stream
           (give_shape f (args_said (ls ps)) ∙ ap₂ give_shapes (head_shape_is bound n.ck x (clocks_said (ls ps))) (shapes_same ps)) refl
 
-    used_holds : (n : Note) (bound : Binder) (x i : ℕ) → i ≤ top → OnTo n.ck i → Met i (Reads.used d shapes n bound x).needs → ArgAt i (Turn.used cases defs call d a T act rst n bound x)
+    used_holds : (n : Note) (bound : Binder) (x i : ℕ) → i ≤ top → OnTo n.ck i → Met' i (Reads.used d shapes n bound x).needs → ArgAt i (Turn.used cases defs call d a T act rst n bound x)
     used_holds n (b.Def k) x i t o m = call_holds n (b.Def k) x [] None i t o m
     used_holds n (b.Var k) x i t o m = looked (b.Var k) x i t m.is_now
     used_holds n (b.Param k) x i t o m = looked (b.Param k) x i t m.is_now
@@ -340,7 +303,7 @@ module _ (cases : ℕ → Option ℕ) (defs : List Definition) (call : Meaning) 
     used_shape n b.Nothing x = look_shape_is b.Nothing x
     used_shape n (b.Case c k) x = look_shape_is (b.Case c k) x
 
-    module _ (last_known : (bound : Binder) (i : ℕ) → i ≤ top → Met i (Reads.last_needs d shapes bound) → IsKnown (Turn.last_bound cases defs call d a T bound i)) where
+    module _ (last_known : (bound : Binder) (i : ℕ) → i ≤ top → Met' i (Reads.last_needs d shapes bound) → IsKnown (Turn.last_bound cases defs call d a T bound i)) where
       layer : (y : Form-F Note TwoF TwoS) → HoldsF (fs (Lefts y)) (fr (Rights y))
       layer (Form-F.Leaf l) n = (refl, λ i t o m. some_known (Present (v.Leaf l)))
       layer (Form-F.Case x) n = (refl, λ i t o m. some_known (Present (Search.case_value n.bound)))
@@ -354,13 +317,13 @@ module _ (cases : ℕ → Option ℕ) (defs : List Definition) (call : Meaning) 
           (know_all_known (cells_at i (ls args)) (all_cells args i t m)) (λ cs z. some_known (Present (tuple (values_in cs)))))
       layer (Form-F.Pre p) n = (refl, λ i t o m. delay_known n i (Some (Present nil)) (row_of p.0.arg) t o (some_known (Present nil)) (was_known p i t m))
       layer (Form-F.Fby x y) n = (refl, λ i t o m. delay_known n i (row_of x.0.arg i) (row_of y.0.arg) t o
-          (is_known x i t (met_left i x.1.needs (earlier y.1.needs) m)) (was_known y i t (met_right i x.1.needs (earlier y.1.needs) m)))
+          (is_known x i t (met_left Ok T i x.1.needs (earlier y.1.needs) m)) (was_known y i t (met_right Ok T i x.1.needs (earlier y.1.needs) m)))
       layer (Form-F.Init x y) n = (refl, λ i t o m. delay_known n i (row_of x.0.arg i) (λ j. row_of y.0.arg i) t o
-          (is_known x i t (met_left i x.1.needs y.1.needs m)) (λ j l. is_known y i t (met_right i x.1.needs y.1.needs m)))
+          (is_known x i t (met_left Ok T i x.1.needs y.1.needs m)) (λ j l. is_known y i t (met_right Ok T i x.1.needs y.1.needs m)))
       layer (Form-F.When p x k) n = (refl, λ i t o m. is_known p i t m)
       layer (Form-F.Merge x choices) n = (refl, λ i t o m. know_known (row_of (Turn.look cases defs call d a T n.bound x.0) i) (Turn.merged cases defs call d a T (lcs choices) i)
-          (row_known i (Turn.look cases defs call d a T n.bound x.0) (looked n.bound x.0 i t (met_left i (now_only (bound_keys n.bound)) (all_needs (rcs choices)) m).is_now))
-          (λ c z. merged_known choices i t (met_right i (now_only (bound_keys n.bound)) (all_needs (rcs choices)) m) (case_of (value_in c))))
+          (row_known i (Turn.look cases defs call d a T n.bound x.0) (looked n.bound x.0 i t (met_left Ok T i (now_only (bound_keys n.bound)) (all_needs (rcs choices)) m).is_now))
+          (λ c z. merged_known choices i t (met_right Ok T i (now_only (bound_keys n.bound)) (all_needs (rcs choices)) m) (case_of (value_in c))))
       layer (Form-F.Call run head args None) n = (call_shape n n.bound head.0 args None, λ i t o m. call_holds n n.bound head.0 args None i t o m)
       layer (Form-F.Call run head args (Some s)) n = (call_shape n n.bound head.0 args (Some s), λ i t o m. call_holds n n.bound head.0 args (Some s) i t o m)
 
@@ -369,9 +332,9 @@ module _ (cases : ℕ → Option ℕ) (defs : List Definition) (call : Meaning) 
         refl,
         on_clock_shape n (p.0 n) ∙ (p.2 n).0,
         λ i t m.
-          let own : Met i (now_only (keys n.ck)) = met_left i (now_only (keys n.ck)) (p.1 n).needs m in
+          let own : Met' i (now_only (keys n.ck)) = met_left Ok T i (now_only (keys n.ck)) (p.1 n).needs m in
           on_clock_known n (p.0 n) i (clock_known n.ck i t own.is_now)
-            ((p.2 n).1 i t (λ j l. clock_known n.ck j (omega (arith, l, t)) (met_to i j (now_only (keys n.ck)) l own).is_now) (met_right i (now_only (keys n.ck)) (p.1 n).needs m)),
+            ((p.2 n).1 i t (λ j l. clock_known n.ck j (omega (arith, l, t)) (met_to Ok T i j (now_only (keys n.ck)) l own).is_now) (met_right Ok T i (now_only (keys n.ck)) (p.1 n).needs m)),
       )
 
       pub said_known : (e : E) → Holds (fold-Expr Note (Note → Arg) Said fs es e) (Reads.reading d shapes e)

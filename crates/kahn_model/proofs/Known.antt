@@ -69,7 +69,7 @@ module _ (cases : ℕ → Option ℕ) (defs : List Definition) (call : Meaning) 
   abbrev pub SiteAt : Variable → ℕ → Site Note → Type 0
   SiteAt w i s = All (λ (mj : ℕ × ℕ). IsKnown (T (key.Name mj.0) i)) s.inner × IsKnown (Turn.right_cell cases defs call d a T w.name s.place s.right i)
 
-  by_reach_known : (c m : Option Cell) (s : Bool) → IsKnown c → IsKnown m → (r : Reach) → IsKnown (Search.by_reach c m s r)
+  pub by_reach_known : (c m : Option Cell) (s : Bool) → IsKnown c → IsKnown m → (r : Reach) → IsKnown (Search.by_reach c m s r)
   by_reach_known c m s p q Here = p
   by_reach_known c m s p q Elsewhere = q
   by_reach_known c m s p q NoArm = some_known (if s then Silent else Present nil)

@@ -8,4 +8,6 @@ pub mod Pointwise
 pub mod Knowing
 pub mod Known
 pub mod Presence
+pub mod Needed
 pub mod Expressions
+pub mod Rising

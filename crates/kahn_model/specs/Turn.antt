@@ -209,9 +209,13 @@ module _ (cases : ℕ → Option ℕ) (defs : List Definition) (call : Meaning) 
   abbrev pub expr_step : Expr-F Note (Note → Arg) Said → Said
   expr_step e = record { note = e.note; arg = on_clock e.note (e.form e.note) }
 
-  -- an expression at a place
+  -- what stands at an expression at a place
+  abbrev pub said : Place → E → Said
+  said p e = fold-Expr Note (Note → Arg) Said (form_step (active p) (again p)) expr_step e
+
+  -- the row of an expression at a place
   abbrev pub cell : Place → E → Row Cell
-  cell p e = row_of (fold-Expr Note (Note → Arg) Said (form_step (active p) (again p)) expr_step e).arg
+  cell p e = row_of (said p e).arg
 
   -- ---- variables that several arms share
 
