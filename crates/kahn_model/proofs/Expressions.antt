@@ -1,6 +1,6 @@
 -- The cell of an expression is known where what it reads is, and the bodies that it calls are.
 use Rattle.std.specs.Prelude.{◌≡◌, refl, ℕ, ◌<◌, ◌≤◌, Bool, true, false, List, [], ◌∷◌, ◌++◌, map, Option, Some, None, if◌then◌else◌, unwrap_or, option_map}
-use Rattle.std.proofs.Common.{ap, ap₂, sym, ◌∙◌, subst, arith, inl, inr}
+use Rattle.std.proofs.Common.{ap, ap₂, sym, ◌∙◌, subst, arith}
 use Rattle.ls_ast.specs.declared.tree.Case.{Case}
 use Rattle.ls_ast.specs.declared.tree.Expr.{Expr-F, fold-Expr}
 use Rattle.ls_ast.specs.declared.tree.Form.TheOpen.{Form-F}
@@ -16,7 +16,7 @@ use Rattle.kahn_model.specs.declared.cell.Cell.TheVariants.{Absent, Present}
 use Rattle.kahn_model.specs.declared.cell.Key.{Key}
 use Rattle.kahn_model.specs.declared.cell.Value.TheVariants as v
 use Rattle.kahn_model.specs.declared.definition.Definition.{Definition}
-use Rattle.kahn_model.specs.Rows.{Row, IsKnown, either, know, know_all, previous}
+use Rattle.kahn_model.specs.Rows.{Row, IsKnown, know, know_all, previous}
 use Rattle.kahn_model.specs.Values.{case_of, eval, nil, tuple}
 use Rattle.kahn_model.specs.Cells.{after_first, emitted, is_yes, say, value_in, values_in}
 use Rattle.kahn_model.specs.Clocks.{choice_parts, is_function}
@@ -30,8 +30,7 @@ use Rattle.kahn_model.specs.Turn
 use Rattle.kahn_model.specs.Turn.{Table}
 use Rattle.kahn_model.specs.Reads
 use Rattle.kahn_model.specs.Reads.{Shape, a_stream, a_function, with_argument, shape_of, shapes_of, give_shapes, param_shape, Call, calls_of, Needs, Formed, Reading, together, earlier, nothing, now_only, all_needs, every_needs, shapes_read, clocks_read, bound_keys}
-use Rattle.kahn_model.proofs.Filling.{below_or_equal}
-use Rattle.kahn_model.proofs.Knowing.{all_append, all_left, all_right, all_map, after_first_known, at_known, either_known, know_all_known, know_known, previous_known, some_known}
+use Rattle.kahn_model.proofs.Knowing.{all_left, all_right, all_map, after_first_known, at_known, either_known, know_all_known, know_known, previous_known, some_known}
 use Rattle.kahn_model.proofs.Needed.{Kn, Met, met_left, met_right, met_to, met_earlier}
 use Rattle.kahn_model.proofs.Presence.{row_known, on_known, look_known, head_known, say_known}
 use Rattle.kahn_model.proofs.Related
@@ -240,15 +239,17 @@ module _ (cases : ℕ → Option ℕ) (defs : List Definition) (call : Meaning) 
 
     abbrev head_needs : Note → Binder → ℕ → List Reading → Needs
     head_needs n bound x args = record {
-        now = bound_keys bound ++ Reads.clocks_keys d shapes (clocks_read args ++ n.ck ∷ []); before = [];
-        calls = if is_function n then [] else calls_of (Reads.head_shape d shapes bound x) (shapes_read args) }
+      now = bound_keys bound ++ Reads.clocks_keys d shapes (clocks_read args ++ n.ck ∷ []);
+      before = [];
+      calls = if is_function n then [] else calls_of (Reads.head_shape d shapes bound x) (shapes_read args);
+    }
 
     head_at : (n : Note) (bound : Binder) (x : ℕ) (ps : List TwoS) (i : ℕ) → i ≤ top → Met' i (head_needs n bound x (rs ps))
         → ArgAt i (Turn.head_of cases defs call d a T bound n.ck x (clocks_said (ls ps)))
     head_at n bound x ps i t m = head_known cases defs call d a T top around shapes bound n.ck x i t (clocks_said (ls ps))
         (all_left (Kn' i) (bound_keys bound) (Reads.clocks_keys d shapes (clocks_read (rs ps) ++ n.ck ∷ [])) m.is_now)
         (subst (λ cks. All (Kn' i) (joined (map keys (cks ++ n.ck ∷ [])))) (cks_same ps)
-          (all_right (Kn' i) (bound_keys bound) (Reads.clocks_keys d shapes (clocks_read (rs ps) ++ n.ck ∷ [])) m.is_now))
+        (all_right (Kn' i) (bound_keys bound) (Reads.clocks_keys d shapes (clocks_read (rs ps) ++ n.ck ∷ [])) m.is_now))
 
     head_to : (n : Note) (bound : Binder) (x : ℕ) (ps : List TwoS) (i : ℕ) → i ≤ top → Met' i (head_needs n bound x (rs ps))
         → ArgTo i (Turn.head_of cases defs call d a T bound n.ck x (clocks_said (ls ps)))
@@ -270,24 +271,24 @@ module _ (cases : ℕ → Option ℕ) (defs : List Definition) (call : Meaning) 
         let fk : ArgTo i f = head_to n bound x ps i t head in
         let xk : All (ArgTo i) xs = args_to ps i t (met_left Ok T i (all_needs (rs ps)) (every_needs (right_every s)) rest) in
         by_function i (is_function n) (Functions.give_args f xs)
-          (Turn.apply cases defs call d a T f xs (on' n.ck) act (Turn.every_too cases defs call d a T rst (left_every s)))
-          (calls_of (Reads.head_shape d shapes bound x) (shapes_read (rs ps)))
-          (give_at i f xs (fk i (omega arith)) (all_now i xs xk))
-          (λ ok. apply_known i t f xs (on' n.ck) act (Turn.every_too cases defs call d a T rst (left_every s)) fk xk o (λ j l. act_known j (omega (arith, l, t)))
-            (every_to s i t (met_right Ok T i (all_needs (rs ps)) (every_needs (right_every s)) rest))
-            (subst (λ h. All Ok (calls_of h (shapes_of xs))) (sym (head_shape_is bound n.ck x (clocks_said (ls ps))))
-              (subst (λ ss. All Ok (calls_of (Reads.head_shape d shapes bound x) ss)) (sym (shapes_same ps)) ok)))
-          head.ok
+        (Turn.apply cases defs call d a T f xs (on' n.ck) act (Turn.every_too cases defs call d a T rst (left_every s)))
+        (calls_of (Reads.head_shape d shapes bound x) (shapes_read (rs ps)))
+        (give_at i f xs (fk i (omega arith)) (all_now i xs xk))
+        (λ ok. apply_known i t f xs (on' n.ck) act (Turn.every_too cases defs call d a T rst (left_every s)) fk xk o (λ j l. act_known j (omega (arith, l, t)))
+        (every_to s i t (met_right Ok T i (all_needs (rs ps)) (every_needs (right_every s)) rest))
+        (subst (λ h. All Ok (calls_of h (shapes_of xs))) (sym (head_shape_is bound n.ck x (clocks_said (ls ps))))
+        (subst (λ ss. All Ok (calls_of (Reads.head_shape d shapes bound x) ss)) (sym (shapes_same ps)) ok)))
+        head.ok
 
     call_shape : (n : Note) (bound : Binder) (x : ℕ) (ps : List TwoS) (s : Option TwoS)
         → shape_of (Turn.called cases defs call d a T act rst n (Turn.head_of cases defs call d a T bound n.ck x (clocks_said (ls ps))) (ls ps) (left_every s))
-          ≡ (Reads.called d shapes n bound x (rs ps) (right_every s)).shape
+        ≡ (Reads.called d shapes n bound x (rs ps) (right_every s)).shape
     call_shape n bound x ps s =
         let f : Arg = Turn.head_of cases defs call d a T bound n.ck x (clocks_said (ls ps)) in
         if_shape (is_function n) (Functions.give_args f (args_said (ls ps)))
-          (stream (Turn.apply cases defs call d a T f (args_said (ls ps)) (on' n.ck) act (Turn.every_too cases defs call d a T rst (left_every s))))
-          (give_shapes (Reads.head_shape d shapes bound x) (shapes_read (rs ps))) a_stream
-          (give_shape f (args_said (ls ps)) ∙ ap₂ give_shapes (head_shape_is bound n.ck x (clocks_said (ls ps))) (shapes_same ps)) refl
+        (stream (Turn.apply cases defs call d a T f (args_said (ls ps)) (on' n.ck) act (Turn.every_too cases defs call d a T rst (left_every s))))
+        (give_shapes (Reads.head_shape d shapes bound x) (shapes_read (rs ps))) a_stream
+        (give_shape f (args_said (ls ps)) ∙ ap₂ give_shapes (head_shape_is bound n.ck x (clocks_said (ls ps))) (shapes_same ps)) refl
 
     used_holds : (n : Note) (bound : Binder) (x i : ℕ) → i ≤ top → OnTo n.ck i → Met' i (Reads.used d shapes n bound x).needs → ArgAt i (Turn.used cases defs call d a T act rst n bound x)
     used_holds n (b.Def k) x i t o m = call_holds n (b.Def k) x [] None i t o m
@@ -309,21 +310,39 @@ module _ (cases : ℕ → Option ℕ) (defs : List Definition) (call : Meaning) 
       layer (Form-F.Case x) n = (refl, λ i t o m. some_known (Present (Search.case_value n.bound)))
       layer (Form-F.Var x) n = (used_shape n n.bound x.0, λ i t o m. used_holds n n.bound x.0 i t o m)
       layer (Form-F.Last x) n = (refl, λ i t o m. last_known n.bound i t m)
-      layer (Form-F.Asked x) n = (refl, λ i t o m. know_known (row_of (Turn.look cases defs call d a T n.bound x.0) i) (λ c. Some (Present (v.Leaf (leaf.Bool (emitted c)))))
-          (row_known i (Turn.look cases defs call d a T n.bound x.0) (looked n.bound x.0 i t m.is_now)) (λ c z. some_known (Present (v.Leaf (leaf.Bool (emitted c))))))
-      layer (Form-F.Op op args) n = (refl, λ i t o m. know_known (know_all (cells_at i (ls args))) (λ cs. Some (Present (eval op (values_in cs))))
-          (know_all_known (cells_at i (ls args)) (all_cells args i t m)) (λ cs z. some_known (Present (eval op (values_in cs)))))
-      layer (Form-F.Tuple args) n = (refl, λ i t o m. know_known (know_all (cells_at i (ls args))) (λ cs. Some (Present (tuple (values_in cs))))
-          (know_all_known (cells_at i (ls args)) (all_cells args i t m)) (λ cs z. some_known (Present (tuple (values_in cs)))))
+      layer (Form-F.Asked x) n = (
+        refl,
+        λ i t o m. know_known (row_of (Turn.look cases defs call d a T n.bound x.0) i) (λ c. Some (Present (v.Leaf (leaf.Bool (emitted c)))))
+            (row_known i (Turn.look cases defs call d a T n.bound x.0) (looked n.bound x.0 i t m.is_now)) (λ c z. some_known (Present (v.Leaf (leaf.Bool (emitted c))))),
+      )
+      layer (Form-F.Op op args) n = (
+        refl,
+        λ i t o m. know_known (know_all (cells_at i (ls args))) (λ cs. Some (Present (eval op (values_in cs))))
+            (know_all_known (cells_at i (ls args)) (all_cells args i t m)) (λ cs z. some_known (Present (eval op (values_in cs)))),
+      )
+      layer (Form-F.Tuple args) n = (
+        refl,
+        λ i t o m. know_known (know_all (cells_at i (ls args))) (λ cs. Some (Present (tuple (values_in cs))))
+            (know_all_known (cells_at i (ls args)) (all_cells args i t m)) (λ cs z. some_known (Present (tuple (values_in cs)))),
+      )
       layer (Form-F.Pre p) n = (refl, λ i t o m. delay_known n i (Some (Present nil)) (row_of p.0.arg) t o (some_known (Present nil)) (was_known p i t m))
-      layer (Form-F.Fby x y) n = (refl, λ i t o m. delay_known n i (row_of x.0.arg i) (row_of y.0.arg) t o
-          (is_known x i t (met_left Ok T i x.1.needs (earlier y.1.needs) m)) (was_known y i t (met_right Ok T i x.1.needs (earlier y.1.needs) m)))
-      layer (Form-F.Init x y) n = (refl, λ i t o m. delay_known n i (row_of x.0.arg i) (λ j. row_of y.0.arg i) t o
-          (is_known x i t (met_left Ok T i x.1.needs y.1.needs m)) (λ j l. is_known y i t (met_right Ok T i x.1.needs y.1.needs m)))
+      layer (Form-F.Fby x y) n = (
+        refl,
+        λ i t o m. delay_known n i (row_of x.0.arg i) (row_of y.0.arg) t o
+            (is_known x i t (met_left Ok T i x.1.needs (earlier y.1.needs) m)) (was_known y i t (met_right Ok T i x.1.needs (earlier y.1.needs) m)),
+      )
+      layer (Form-F.Init x y) n = (
+        refl,
+        λ i t o m. delay_known n i (row_of x.0.arg i) (λ j. row_of y.0.arg i) t o
+            (is_known x i t (met_left Ok T i x.1.needs y.1.needs m)) (λ j l. is_known y i t (met_right Ok T i x.1.needs y.1.needs m)),
+      )
       layer (Form-F.When p x k) n = (refl, λ i t o m. is_known p i t m)
-      layer (Form-F.Merge x choices) n = (refl, λ i t o m. know_known (row_of (Turn.look cases defs call d a T n.bound x.0) i) (Turn.merged cases defs call d a T (lcs choices) i)
-          (row_known i (Turn.look cases defs call d a T n.bound x.0) (looked n.bound x.0 i t (met_left Ok T i (now_only (bound_keys n.bound)) (all_needs (rcs choices)) m).is_now))
-          (λ c z. merged_known choices i t (met_right Ok T i (now_only (bound_keys n.bound)) (all_needs (rcs choices)) m) (case_of (value_in c))))
+      layer (Form-F.Merge x choices) n = (
+        refl,
+        λ i t o m. know_known (row_of (Turn.look cases defs call d a T n.bound x.0) i) (Turn.merged cases defs call d a T (lcs choices) i)
+            (row_known i (Turn.look cases defs call d a T n.bound x.0) (looked n.bound x.0 i t (met_left Ok T i (now_only (bound_keys n.bound)) (all_needs (rcs choices)) m).is_now))
+            (λ c z. merged_known choices i t (met_right Ok T i (now_only (bound_keys n.bound)) (all_needs (rcs choices)) m) (case_of (value_in c))),
+      )
       layer (Form-F.Call run head args None) n = (call_shape n n.bound head.0 args None, λ i t o m. call_holds n n.bound head.0 args None i t o m)
       layer (Form-F.Call run head args (Some s)) n = (call_shape n n.bound head.0 args (Some s), λ i t o m. call_holds n n.bound head.0 args (Some s) i t o m)
 
@@ -332,8 +351,8 @@ module _ (cases : ℕ → Option ℕ) (defs : List Definition) (call : Meaning) 
         refl,
         on_clock_shape n (p.0 n) ∙ (p.2 n).0,
         λ i t m.
-          let own : Met' i (now_only (keys n.ck)) = met_left Ok T i (now_only (keys n.ck)) (p.1 n).needs m in
-          on_clock_known n (p.0 n) i (clock_known n.ck i t own.is_now)
+            let own : Met' i (now_only (keys n.ck)) = met_left Ok T i (now_only (keys n.ck)) (p.1 n).needs m in
+            on_clock_known n (p.0 n) i (clock_known n.ck i t own.is_now)
             ((p.2 n).1 i t (λ j l. clock_known n.ck j (omega (arith, l, t)) (met_to Ok T i j (now_only (keys n.ck)) l own).is_now) (met_right Ok T i (now_only (keys n.ck)) (p.1 n).needs m)),
       )
 

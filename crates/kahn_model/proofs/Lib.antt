@@ -11,3 +11,4 @@ pub mod Presence
 pub mod Needed
 pub mod Expressions
 pub mod Rising
+pub mod Depth

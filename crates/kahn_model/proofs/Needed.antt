@@ -1,5 +1,5 @@
 -- What a row needs is known at an instant: what it reads then, all of it before, and the calls that it makes.
-use Rattle.std.specs.Prelude.{◌≡◌, ℕ, ◌<◌, ◌≤◌, List, ◌++◌}
+use Rattle.std.specs.Prelude.{ℕ, ◌<◌, ◌≤◌, List}
 use Rattle.std.proofs.Common.{sym, subst, arith, inl, inr}
 use Rattle.kahn_model.specs.declared.cell.Key.{Key}
 use Rattle.kahn_model.specs.Rows.{IsKnown}
@@ -25,13 +25,19 @@ module _ (Ok : Call → Type 0) (T : Table) where
 
   pub met_left : (i : ℕ) (r s : Needs) → Met i (together r s) → Met i r
   met_left i r s m = record {
-      was_now = all_left (Up i) r.now s.now m.was_now; was_before = all_left (Up i) r.before s.before m.was_before;
-      is_now = all_left (Kn i) r.now s.now m.is_now; ok = all_left Ok r.calls s.calls m.ok }
+    was_now = all_left (Up i) r.now s.now m.was_now;
+    was_before = all_left (Up i) r.before s.before m.was_before;
+    is_now = all_left (Kn i) r.now s.now m.is_now;
+    ok = all_left Ok r.calls s.calls m.ok;
+  }
 
   pub met_right : (i : ℕ) (r s : Needs) → Met i (together r s) → Met i s
   met_right i r s m = record {
-      was_now = all_right (Up i) r.now s.now m.was_now; was_before = all_right (Up i) r.before s.before m.was_before;
-      is_now = all_right (Kn i) r.now s.now m.is_now; ok = all_right Ok r.calls s.calls m.ok }
+    was_now = all_right (Up i) r.now s.now m.was_now;
+    was_before = all_right (Up i) r.before s.before m.was_before;
+    is_now = all_right (Kn i) r.now s.now m.is_now;
+    ok = all_right Ok r.calls s.calls m.ok;
+  }
 
   up_less : (i j : ℕ) → j < i → (ks : List Key) → All (Up i) ks → All (Up j) ks
   up_less i j l = all_map (Up i) (Up j) (λ k f m q. f m (omega (arith, l, q)))
@@ -41,8 +47,11 @@ module _ (Ok : Call → Type 0) (T : Table) where
 
   pub met_sooner : (i j : ℕ) (r : Needs) → j < i → Met i r → Met j r
   met_sooner i j r l m = record {
-      was_now = up_less i j l r.now m.was_now; was_before = up_less i j l r.before m.was_before;
-      is_now = up_at i j l r.now m.was_now; ok = m.ok }
+    was_now = up_less i j l r.now m.was_now;
+    was_before = up_less i j l r.before m.was_before;
+    is_now = up_at i j l r.now m.was_now;
+    ok = m.ok;
+  }
 
   pub met_to : (i j : ℕ) (r : Needs) → j ≤ i → Met i r → Met j r
   met_to i j r l m = elim (below_or_equal j i (omega (arith, l))) [ inl p ↦ met_sooner i j r p m | inr e ↦ subst (λ y. Met y r) (sym e) m ]
@@ -51,5 +60,8 @@ module _ (Ok : Call → Type 0) (T : Table) where
   met_earlier i j r l m =
       let now' = all_left (Up i) r.now r.before m.was_before in
       record {
-      was_now = up_less i j l r.now now'; was_before = up_less i j l r.before (all_right (Up i) r.now r.before m.was_before);
-      is_now = up_at i j l r.now now'; ok = m.ok }
+        was_now = up_less i j l r.now now';
+        was_before = up_less i j l r.before (all_right (Up i) r.now r.before m.was_before);
+        is_now = up_at i j l r.now now';
+        ok = m.ok;
+      }

@@ -1,36 +1,35 @@
 -- Presence and what stands for names are known where the rows that they read are.
-use Rattle.std.specs.Prelude.{◌≡◌, refl, ℕ, zero, suc, ◌-◌, ◌<◌, ◌≤◌, ◌==◌, Bool, true, false, List, [], ◌∷◌, ◌++◌, map, length, Option, Some, None, if◌then◌else◌, nat_lt}
-use Rattle.std.proofs.Common.{ap, sym, ◌∙◌, subst, arith}
+use Rattle.std.specs.Prelude.{ℕ, zero, suc, ◌-◌, ◌≤◌, ◌==◌, Bool, true, false, List, [], ◌∷◌, ◌++◌, map, length, Option, Some, None, if◌then◌else◌, nat_lt}
+use Rattle.std.proofs.Common.{sym, subst}
 use Rattle.ls_ast.specs.declared.tree.Pat.{Pat}
 use Rattle.ls_sig.specs.Patterns.{names_of, joined}
-use Rattle.ls_sig.specs.Places.{Place, InnerArm, arms}
+use Rattle.ls_sig.specs.Places.{InnerArm}
 use Rattle.ls_sig.specs.declared.binder.Binder.{Binder}
 use Rattle.ls_sig.specs.declared.binder.Binder.TheVariants as b
 use Rattle.ls_sig.specs.declared.binder.Note.{Note}
-use Rattle.ls_sig.specs.declared.places.Frame.TheVariants as frame
 use Rattle.ls_sig.specs.declared.places.Named.{Named}
 use Rattle.ls_sig.specs.declared.places.Named.TheVariants as named
-use Rattle.ls_terms.specs.declared.term.ClockTerm.{ClockTerm, fold-ClockTerm, fold-roll-ClockTerm, fold_out-ClockTerm, ind-ClockTerm, map-ClockTerm, out-ClockTerm, roll-ClockTerm}
+use Rattle.ls_terms.specs.declared.term.ClockTerm.{ClockTerm, fold-roll-ClockTerm, fold_out-ClockTerm, ind-ClockTerm, map-ClockTerm, out-ClockTerm, roll-ClockTerm}
 use Rattle.ls_terms.specs.declared.term.ClockTerm.TheOpen.{ClockTerm-F}
 use Rattle.kahn_model.specs.declared.cell.Cell.{Cell}
 use Rattle.kahn_model.specs.declared.cell.Cell.TheVariants.{Absent}
 use Rattle.kahn_model.specs.declared.cell.Key.{Key}
 use Rattle.kahn_model.specs.declared.cell.Key.TheVariants as key
 use Rattle.kahn_model.specs.declared.definition.Definition.{Definition}
-use Rattle.kahn_model.specs.Rows.{Row, IsKnown, both, know}
+use Rattle.kahn_model.specs.Rows.{Row, IsKnown}
 use Rattle.kahn_model.specs.Cells.{is_case, part, say}
 use Rattle.kahn_model.specs.Clocks.{Meets, meets, meets_all, meets_arrow, meets_on, meets_step}
 use Rattle.kahn_model.specs.Values.{or_else}
 use Rattle.kahn_model.specs.Functions.{Arg, stream, def, given, Around, Meaning, arg_at, has_name, param_in, part_arg, row_of}
 use Rattle.kahn_model.specs.Fullness.{All}
-use Rattle.kahn_model.specs.Causality.{RowTo, ArgAt, ArgTo, AroundTo}
+use Rattle.kahn_model.specs.Causality.{ArgAt, ArgTo, AroundTo}
 use Rattle.kahn_model.specs.Search.{nth, in_signature, home_of}
 use Rattle.kahn_model.specs.Turn
 use Rattle.kahn_model.specs.Turn.{Table}
 use Rattle.kahn_model.specs.Reads
 use Rattle.kahn_model.specs.Reads.{Shape, arm_key, arm_keys, around_keys, bound_keys, name_key}
 use Rattle.kahn_model.proofs.Knowing.{all_append, all_left, all_right, all_map, both_known, know_known, some_known}
-use Rattle.kahn_model.proofs.Known.{active_known, again_known}
+use Rattle.kahn_model.proofs.Known.{active_known}
 
 pub row_known : (i : ℕ) (x : Arg) → ArgAt i x → IsKnown (row_of x i)
 row_known i (stream r) p = p
@@ -138,7 +137,7 @@ module _ (cases : ℕ → Option ℕ) (defs : List Definition) (call : Meaning) 
   pub on_known : (ck : ClockTerm) (i : ℕ) → i ≤ top → All (Kn i) (keys ck) → IsKnown (Turn.on cases defs call d a T ck i)
   on_known = ind-ClockTerm OnP (λ x y from. subst (λ z. OnP (roll-ClockTerm z)) from
       (λ i t q. subst (λ (r : Row Bool). IsKnown (r i)) (sym (fold-roll-ClockTerm (Row Bool) ostep (tops y)))
-        (on_layer y i t (subst (All (Kn i)) (fold-roll-ClockTerm (List Key) kstep (tops y)) q))))
+      (on_layer y i t (subst (All (Kn i)) (fold-roll-ClockTerm (List Key) kstep (tops y)) q))))
 
   -- ---- the instance of a signature: what a clock variable is met by is a part of the clocks at hand
 
@@ -237,7 +236,7 @@ module _ (cases : ℕ → Option ℕ) (defs : List Definition) (call : Meaning) 
   clocks_at_known i t k cks ck ClockTerm-F.Pointwise p q = tt
   clocks_at_known i t k cks ck (ClockTerm-F.Arrow more result) p q = λ w. instance_known i t (nth defs k) (cks ++ more) result
       (keys_both i (cks ++ more) (result ∷ []) (keys_both i cks more (keys_left i cks (ck ∷ []) p) (all_left (Kn i) (joined (map keys more)) (keys result) q))
-        (all_append (Kn i) (keys result) [] (all_right (Kn i) (joined (map keys more)) (keys result) q) tt)) w
+      (all_append (Kn i) (keys result) [] (all_right (Kn i) (joined (map keys more)) (keys result) q) tt)) w
   clocks_at_known i t k cks ck (ClockTerm-F.Var v) p q = λ w. instance_known i t (nth defs k) cks ck p w
   clocks_at_known i t k cks ck (ClockTerm-F.On s n c) p q = λ w. instance_known i t (nth defs k) cks ck p w
 

@@ -1,12 +1,11 @@
 -- A turn makes the cell of a row known where what the row needs is.
-use Rattle.std.specs.Prelude.{◌≡◌, refl, ℕ, zero, suc, ◌+◌, ◌-◌, ◌<◌, ◌≤◌, Bool, true, false, List, [], ◌∷◌, ◌++◌, map, length, Option, Some, None, ◌⊎◌, if◌then◌else◌}
-use Rattle.std.proofs.Common.{sym, subst, arith, inl, inr, ap, ◌∙◌}
+use Rattle.std.specs.Prelude.{◌≡◌, refl, ℕ, zero, suc, ◌+◌, ◌-◌, ◌≤◌, Bool, true, false, List, [], ◌∷◌, ◌++◌, map, length, Option, Some, None, if◌then◌else◌}
+use Rattle.std.proofs.Common.{sym, subst, arith}
 use Rattle.ls_sig.specs.Patterns.{joined}
 use Rattle.ls_sig.specs.Places.{Place, InnerArm, arms}
 use Rattle.ls_sig.specs.declared.binder.Binder.{Binder}
 use Rattle.ls_sig.specs.declared.binder.Binder.TheVariants as b
 use Rattle.ls_sig.specs.declared.binder.Note.{Note}
-use Rattle.ls_sig.specs.declared.places.Frame.{Frame}
 use Rattle.ls_sig.specs.declared.places.Frame.TheVariants as frame
 use Rattle.ls_sig.specs.declared.places.Named.{Named}
 use Rattle.ls_sig.specs.declared.places.Named.TheVariants as named
@@ -28,7 +27,7 @@ use Rattle.kahn_model.specs.Cells.{part}
 use Rattle.kahn_model.specs.Clocks.{bare}
 use Rattle.kahn_model.specs.Functions
 use Rattle.kahn_model.specs.Functions.{Around, Meaning, param_in, row_of}
-use Rattle.kahn_model.specs.Fullness.{All, HasKey}
+use Rattle.kahn_model.specs.Fullness.{All}
 use Rattle.kahn_model.specs.Causality.{RowTo, ArgTo, AroundTo}
 use Rattle.kahn_model.specs.Search
 use Rattle.kahn_model.specs.Search.{E, nth, sites_of, start_of, signal_in, mode_clock}
@@ -36,10 +35,9 @@ use Rattle.kahn_model.specs.Turn
 use Rattle.kahn_model.specs.Turn.{Table}
 use Rattle.kahn_model.specs.Reads
 use Rattle.kahn_model.specs.Reads.{Shape, shapes_of, Call, Needs, together, earlier, nothing, now_only, arm_keys, around_keys, frame_key, start_keys}
-use Rattle.kahn_model.proofs.Filling.{below_or_equal}
-use Rattle.kahn_model.proofs.Knowing.{all_append, all_left, all_right, all_map, at_known, know_known, some_known}
+use Rattle.kahn_model.proofs.Knowing.{all_left, all_right, all_map, at_known, know_known, some_known}
 use Rattle.kahn_model.proofs.Known
-use Rattle.kahn_model.proofs.Needed.{Kn, Up, Met, met_left, met_right, met_to, met_earlier, met_sooner}
+use Rattle.kahn_model.proofs.Needed.{Kn, Up, Met, met_left, met_right, met_to, met_earlier}
 use Rattle.kahn_model.proofs.Presence.{row_known, param_known, active_at, arms_known, args_known, all_joined}
 use Rattle.kahn_model.proofs.Expressions.{clock_known, said_known}
 
@@ -48,8 +46,11 @@ all_args_to i top t = all_map (ArgTo top) (ArgTo i) (λ x f j l. f j (omega (ari
 
 pub around_sooner : (i top : ℕ) → i ≤ top → (a : Around) → AroundTo top a → AroundTo i a
 around_sooner i top t a p = record {
-    active = λ j l. p.active j (omega (arith, l, t)); again = λ j l. p.again j (omega (arith, l, t));
-    clocks = λ w j l. p.clocks w j (omega (arith, l, t)); args = all_args_to i top t a.args p.args }
+  active = λ j l. p.active j (omega (arith, l, t));
+  again = λ j l. p.again j (omega (arith, l, t));
+  clocks = λ w j l. p.clocks w j (omega (arith, l, t));
+  args = all_args_to i top t a.args p.args;
+}
 
 module _ (cases : ℕ → Option ℕ) (defs : List Definition) (call : Meaning) (Ok : Call → Type 0) (d : Definition) (a : Around) (T : Table) (top : ℕ) (around : AroundTo top a)
     (calls : (k i : ℕ) → i ≤ top → (c : Around) → Ok (k, shapes_of c.args) → AroundTo i c → IsKnown (call k c i)) where
@@ -110,10 +111,10 @@ module _ (cases : ℕ → Option ℕ) (defs : List Definition) (call : Meaning) 
       let ar : List Key = around_keys w.place in
       let st : List Key = start_keys x (start_of w d.places.starts) in
       Known.last_known cases defs call d a T x w i
-        (λ j l. again_at j (omega (arith, l, t)) w.place (all_left (Kn' j) ar st (met_to Ok T i j (Reads.last_needs_of d shapes x (Some w)) l m).is_now))
-        (λ j l. variable_here_known x j (omega (arith, l, t)) (all_map (Up Ok T i) (Kn' j) (λ k f. f j l) (Reads.variable_clock_keys d shapes x) m.was_before.1))
-        (λ j l. m.was_before.0 j l)
-        (start_row_known x (start_of w d.places.starts) i (all_right (Kn' i) ar st m.is_now))
+      (λ j l. again_at j (omega (arith, l, t)) w.place (all_left (Kn' j) ar st (met_to Ok T i j (Reads.last_needs_of d shapes x (Some w)) l m).is_now))
+      (λ j l. variable_here_known x j (omega (arith, l, t)) (all_map (Up Ok T i) (Kn' j) (λ k f. f j l) (Reads.variable_clock_keys d shapes x) m.was_before.1))
+      (λ j l. m.was_before.0 j l)
+      (start_row_known x (start_of w d.places.starts) i (all_right (Kn' i) ar st m.is_now))
 
   last_bound_known : (bound : Binder) (i : ℕ) → i ≤ top → Met' i (Reads.last_needs d shapes bound) → IsKnown (Turn.last_bound cases defs call d a T bound i)
   last_bound_known (b.Var x) i t m = last_of_known x (nth d.places.vars x) i t m
@@ -131,11 +132,11 @@ module _ (cases : ℕ → Option ℕ) (defs : List Definition) (call : Meaning) 
       let more : Needs = (Reads.reading d shapes e).needs in
       let own : Met' i (now_only (around_keys p)) = met_left Ok T i (now_only (around_keys p)) more m in
       row_known i (Turn.said cases defs call d a T p e).arg
-        ((said_known cases defs call Ok d a T i (around_sooner i top t a around) (λ k j l c o ar. calls k j (omega (arith, l, t)) c o ar) act rst
-            (λ j l. active_here j (omega (arith, l, t)) p (arms_around j p (met_to Ok T i j (now_only (around_keys p)) l own).is_now))
-            (again_to i t p more m)
-            (λ bound j l n. last_bound_known bound j (omega (arith, l, t)) n) e).2 i (omega arith)
-          (met_right Ok T i (now_only (around_keys p)) more m))
+      ((said_known cases defs call Ok d a T i (around_sooner i top t a around) (λ k j l c o ar. calls k j (omega (arith, l, t)) c o ar) act rst
+      (λ j l. active_here j (omega (arith, l, t)) p (arms_around j p (met_to Ok T i j (now_only (around_keys p)) l own).is_now))
+      (again_to i t p more m)
+      (λ bound j l n. last_bound_known bound j (omega (arith, l, t)) n) e).2 i (omega arith)
+      (met_right Ok T i (now_only (around_keys p)) more m))
 
   -- ---- variables
 
@@ -160,9 +161,9 @@ module _ (cases : ℕ → Option ℕ) (defs : List Definition) (call : Meaning) 
       let ks : List Key = arm_keys (mj ∷ inner) in
       let here : Met' i (together (now_only ks) r) = met_left Ok T i (together (now_only ks) r) o m in
       know_known (Turn.reach cases defs call d a T (mj ∷ inner) i) (Search.by_reach (Turn.right_cell cases defs call d a T w.name s.place s.right i) more w.signal)
-        (Known.reach_known cases defs call d a T (mj ∷ inner) i (arms_known cases defs call d a T top around shapes i (mj ∷ inner) (met_left Ok T i (now_only ks) r here).is_now))
-        (λ h z. Known.by_reach_known cases defs call d a T (Turn.right_cell cases defs call d a T w.name s.place s.right i) more w.signal
-          (right_known w.name s.place s.right i t (met_right Ok T i (now_only ks) r here)) (f (met_right Ok T i (together (now_only ks) r) o m)) h)
+      (Known.reach_known cases defs call d a T (mj ∷ inner) i (arms_known cases defs call d a T top around shapes i (mj ∷ inner) (met_left Ok T i (now_only ks) r here).is_now))
+      (λ h z. Known.by_reach_known cases defs call d a T (Turn.right_cell cases defs call d a T w.name s.place s.right i) more w.signal
+      (right_known w.name s.place s.right i t (met_right Ok T i (now_only ks) r here)) (f (met_right Ok T i (together (now_only ks) r) o m)) h)
 
   sites_known : (w : Variable) (row : Row Cell) (o : Needs) (i : ℕ) → i ≤ top → (Met' i o → IsKnown (row i)) → (all : List (Site Note)) → Met' i (Reads.sites_needs d shapes o all)
       → IsKnown (Turn.by_sites cases defs call d a T w row all i)
@@ -182,11 +183,11 @@ module _ (cases : ℕ → Option ℕ) (defs : List Definition) (call : Meaning) 
       let row : Row Cell = if w.signal then (λ j. Some Silent) else Turn.last cases defs call d a T x in
       let ss : Needs = Reads.sites_needs d shapes o (sites_of x d.places.sites) in
       at_known (Turn.variable_here cases defs call d a T x i) (Turn.by_sites cases defs call d a T w row (sites_of x d.places.sites) i)
-        (variable_here_known x i t (met_left Ok T i cs ss m).is_now)
-        (sites_known w row o i t (λ n. if_met w.signal (λ j. Some Silent) (Turn.last cases defs call d a T x) nothing (Reads.last_needs_of d shapes x (Some w)) i
-            (λ z. some_known Silent)
-            (λ z. subst (λ v. IsKnown (Turn.last_of cases defs call d a T x v i)) (sym is) (last_of_known x (Some w) i t z)) n)
-          (sites_of x d.places.sites) (met_right Ok T i cs ss m))
+      (variable_here_known x i t (met_left Ok T i cs ss m).is_now)
+      (sites_known w row o i t (λ n. if_met w.signal (λ j. Some Silent) (Turn.last cases defs call d a T x) nothing (Reads.last_needs_of d shapes x (Some w)) i
+      (λ z. some_known Silent)
+      (λ z. subst (λ v. IsKnown (Turn.last_of cases defs call d a T x v i)) (sym is) (last_of_known x (Some w) i t z)) n)
+      (sites_of x d.places.sites) (met_right Ok T i cs ss m))
 
   start_known : (s : Option (Start Note)) (i : ℕ) → i ≤ top → Met' i (Reads.start_needs d shapes s) → IsKnown (Turn.start_cell cases defs call d a T s i)
   start_known None i t m = some_known Absent
@@ -233,20 +234,20 @@ module _ (cases : ℕ → Option ℕ) (defs : List Definition) (call : Meaning) 
   name_known m (Some (named.Match e all p)) i t h =
       let cs : Needs = now_only (Reads.clock_keys d shapes e.note.ck) in
       Known.match_known cases defs call d a T m e all p i (clock_at e.note.ck i t (met_left Ok T i cs (Reads.needs_at d shapes p e) h).is_now)
-        (cell_known p e i t (met_right Ok T i cs (Reads.needs_at d shapes p e) h))
+      (cell_known p e i t (met_right Ok T i cs (Reads.needs_at d shapes p e) h))
   name_known m (Some (named.Present xs p)) i t h =
       let ks : List Key = arm_keys (arms p) in
       let ss : List (List Key) = map (Reads.signal_keys d shapes p) xs in
       Known.present_known cases defs call d a T m xs p i (active_here i t p (all_left (Kn' i) ks (joined ss) h.is_now))
-        (signals_at xs p i t (all_joined (Kn' i) ss (all_right (Kn' i) ks (joined ss) h.is_now)))
+      (signals_at xs p i t (all_joined (Kn' i) ss (all_right (Kn' i) ks (joined ss) h.is_now)))
   name_known m (Some (named.Active states p)) i t h =
       let own : Needs = now_only (Reads.mode_keys d shapes m p ++ key.Name (m + 1) ∷ []) in
       let gs : Needs = Reads.guards_needs d shapes (m + 1) p 0 states in
       let q = (met_left Ok T i own gs h).is_now in
       Known.mode_known cases defs call d a T m states p i
-        (mode_on_known (mode_clock m d.places.exprs) p i t (all_left (Kn' i) (Reads.mode_keys d shapes m p) (key.Name (m + 1) ∷ []) q))
-        (all_right (Kn' i) (Reads.mode_keys d shapes m p) (key.Name (m + 1) ∷ []) q).0
-        (λ s. guards_known (m + 1) p 0 states i t (met_right Ok T i own gs h) s s (omega arith))
+      (mode_on_known (mode_clock m d.places.exprs) p i t (all_left (Kn' i) (Reads.mode_keys d shapes m p) (key.Name (m + 1) ∷ []) q))
+      (all_right (Kn' i) (Reads.mode_keys d shapes m p) (key.Name (m + 1) ∷ []) q).0
+      (λ s. guards_known (m + 1) p 0 states i t (met_right Ok T i own gs h) s s (omega arith))
   name_known m (Some (named.Tested states p)) i t h =
       let mk : List Key = Reads.mode_keys d shapes (m - 1) p in
       let own : Needs = now_only (mk ++ around_keys p) in
@@ -255,10 +256,10 @@ module _ (cases : ℕ → Option ℕ) (defs : List Definition) (call : Meaning) 
       let mine : Met' i own = met_left Ok T i own (earlier (together row gs)) h in
       let old : Met' i (earlier (together row gs)) = met_right Ok T i own (earlier (together row gs)) h in
       Known.test_known cases defs call d a T m states p i
-        (λ j l. mode_on_known (mode_clock (m - 1) d.places.exprs) p j (omega (arith, l, t)) (all_left (Kn' j) mk (around_keys p) (met_to Ok T i j own l mine).is_now))
-        (λ j l. again_at j (omega (arith, l, t)) p (all_right (Kn' j) mk (around_keys p) (met_to Ok T i j own l mine).is_now))
-        (λ j l. (met_left Ok T j row gs (met_earlier Ok T i j (together row gs) l old)).is_now.0)
-        (λ j l s. guards_known (m - 1) p 0 states j (omega (arith, l, t)) (met_right Ok T j row gs (met_earlier Ok T i j (together row gs) l old)) s s (omega arith))
+      (λ j l. mode_on_known (mode_clock (m - 1) d.places.exprs) p j (omega (arith, l, t)) (all_left (Kn' j) mk (around_keys p) (met_to Ok T i j own l mine).is_now))
+      (λ j l. again_at j (omega (arith, l, t)) p (all_right (Kn' j) mk (around_keys p) (met_to Ok T i j own l mine).is_now))
+      (λ j l. (met_left Ok T j row gs (met_earlier Ok T i j (together row gs) l old)).is_now.0)
+      (λ j l s. guards_known (m - 1) p 0 states j (omega (arith, l, t)) (met_right Ok T j row gs (met_earlier Ok T i j (together row gs) l old)) s s (omega arith))
 
   reset_known : (o : Option (E × Place)) (i : ℕ) → i ≤ top → Met' i (Reads.reset_needs d shapes o) → IsKnown (Turn.reset_cell cases defs call d a T o i)
   reset_known None i t m = some_known Absent

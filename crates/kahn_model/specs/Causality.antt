@@ -1,11 +1,10 @@
 -- Causality: a numbering of the rows that rises along all reads; and what is known up to an instant.
-use Rattle.std.specs.Prelude.{◌≡◌, ℕ, zero, suc, ◌<◌, ◌≤◌, Bool, List, [], ◌∷◌, ◌++◌, map, Option, Some, None}
+use Rattle.std.specs.Prelude.{ℕ, zero, suc, ◌<◌, ◌≤◌, List, ◌++◌, map, Option, Some, None}
 use Rattle.ls_sig.specs.Patterns.{joined}
-use Rattle.kahn_model.specs.declared.cell.Cell.{Cell}
 use Rattle.kahn_model.specs.declared.cell.Key.{Key}
 use Rattle.kahn_model.specs.declared.definition.Definition.{Definition}
 use Rattle.kahn_model.specs.Rows.{Row, IsKnown}
-use Rattle.kahn_model.specs.Functions.{Arg, stream, def, given, Around, Meaning}
+use Rattle.kahn_model.specs.Functions.{Arg, stream, def, given, Around}
 use Rattle.kahn_model.specs.Search.{nth}
 use Rattle.kahn_model.specs.Table.{row_keys}
 use Rattle.kahn_model.specs.Fullness.{All, HasKey}

@@ -1,14 +1,16 @@
 -- The laws of rows, turns and tables.
-use Rattle.std.specs.Prelude.{◌≡◌, ℕ, ◌<◌, ◌≤◌, List, Option, ◌⊎◌}
+use Rattle.std.specs.Prelude.{◌≡◌, ℕ, ◌<◌, ◌≤◌, List, Option, Some, ◌⊎◌}
 use Rattle.kahn_model.specs.declared.cell.Cell.{Cell}
 use Rattle.kahn_model.specs.declared.cell.Key.{Key}
 use Rattle.kahn_model.specs.declared.definition.Definition.{Definition}
 use Rattle.kahn_model.specs.Rows.{Row, RowBelow, IsKnown}
-use Rattle.kahn_model.specs.Functions.{Around, Meaning}
+use Rattle.kahn_model.specs.Functions.{Arg, Around, Meaning}
 use Rattle.kahn_model.specs.Turn.{Table, turn}
-use Rattle.kahn_model.specs.Table.{Rows, read, Solution, table, meaning}
+use Rattle.kahn_model.specs.Table.{Rows, read, row_keys, Solution, table, table_of, meaning, network}
 use Rattle.kahn_model.specs.Order.{AroundBelow, TableBelow, Monotone}
-use Rattle.kahn_model.specs.Fullness.{Full, HasKey}
+use Rattle.kahn_model.specs.Fullness.{All, Full, HasKey}
+use Rattle.kahn_model.specs.Reads.{shapes_of}
+use Rattle.kahn_model.specs.Causality.{ArgTo, AroundTo, Sound, SoundBody}
 
 -- ---- the order of rows
 
@@ -64,3 +66,35 @@ RisingKnown = (ks : List Key) (n : ℕ) (turn_of : Table → Table) → TurnIs t
 abbrev pub RisingFull : Type 0
 RisingFull = (ks : List Key) (n : ℕ) (turn_of : Table → Table) → TurnIs turn_of → (rank : Key → ℕ)
     → RisingTo ks n turn_of rank n → Full (table ks n turn_of)
+
+-- ---- causal bodies
+
+-- The meaning of a definition is known at each instant up to which what is around it is known, where the bodies that it
+-- runs are causal and its calls nest no deeper than the call depth left.
+abbrev pub MeaningKnown : Type 0
+MeaningKnown = (cases : ℕ → Option ℕ) (defs : List Definition) (n depth k : ℕ) (a : Around) (i : ℕ) → i < n
+    → Sound defs depth k (shapes_of a.args) → AroundTo i a → IsKnown (meaning cases defs n depth k a i)
+
+-- so is each row of its table
+abbrev pub BodyKnown : Type 0
+BodyKnown = (cases : ℕ → Option ℕ) (defs : List Definition) (n depth : ℕ) (d : Definition) (a : Around) (i : ℕ) → i < n
+    → SoundBody (Sound defs depth) (Some d) (shapes_of a.args) → AroundTo i a
+    → (k : Key) (j : ℕ) → HasKey k (row_keys d) → j ≤ i → IsKnown (read (table_of cases defs n (meaning cases defs n depth) d a) k j)
+
+-- where all is known that is around it, its table is full
+abbrev pub BodyFull : Type 0
+BodyFull = (cases : ℕ → Option ℕ) (defs : List Definition) (n depth : ℕ) (d : Definition) (a : Around)
+    → SoundBody (Sound defs depth) (Some d) (shapes_of a.args) → ((i : ℕ) → i < n → AroundTo i a)
+    → Full (table_of cases defs n (meaning cases defs n depth) d a)
+
+-- and the only solution
+abbrev pub BodyOnly : Type 0
+BodyOnly = (cases : ℕ → Option ℕ) (defs : List Definition) (n depth : ℕ) (d : Definition) (a : Around)
+    → SoundBody (Sound defs depth) (Some d) (shapes_of a.args) → ((i : ℕ) → i < n → AroundTo i a)
+    → (S : Rows) → Solution (row_keys d) n (turn cases defs (meaning cases defs n depth) d a) S
+    → table_of cases defs n (meaning cases defs n depth) d a ≡ S
+
+-- a node whose input is known has a result that is known
+abbrev pub NetworkKnown : Type 0
+NetworkKnown = (cases : ℕ → Option ℕ) (defs : List Definition) (n k : ℕ) (args : List Arg) (i : ℕ) → i < n
+    → Sound defs 201 k (shapes_of args) → All (ArgTo i) args → IsKnown (network cases defs n k args i)

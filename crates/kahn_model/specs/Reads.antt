@@ -1,6 +1,6 @@
 -- What each row of a body's table is computed from: the rows that it reads at the same instant, those of which it reads
 -- earlier cells, and the calls that it makes.
-use Rattle.std.specs.Prelude.{ℕ, zero, suc, ◌+◌, ◌-◌, Bool, true, false, List, [], ◌∷◌, ◌++◌, map, length, Option, Some, None, if◌then◌else◌, nat_lt}
+use Rattle.std.specs.Prelude.{ℕ, suc, ◌+◌, ◌-◌, List, [], ◌∷◌, ◌++◌, map, length, Option, Some, None, if◌then◌else◌, nat_lt}
 use Rattle.ls_ast.specs.declared.tree.Expr.{Expr-F, fold-Expr}
 use Rattle.ls_ast.specs.declared.tree.Form.TheOpen.{Form-F}
 use Rattle.ls_ast.specs.declared.tree.Pat.{Pat}
@@ -167,8 +167,10 @@ module _ (d : Definition) (shapes : List Shape) where
   abbrev pub last_needs_of : ℕ → Option Variable → Needs
   last_needs_of x None = nothing
   last_needs_of x (Some w) = record {
-      now = around_keys w.place ++ start_keys x (start_of w d.places.starts);
-      before = key.Var x ∷ variable_clock_keys x; calls = [] }
+    now = around_keys w.place ++ start_keys x (start_of w d.places.starts);
+    before = key.Var x ∷ variable_clock_keys x;
+    calls = [];
+  }
 
   abbrev pub last_needs : Binder → Needs
   last_needs (b.Var x) = last_needs_of x (nth d.places.vars x)
@@ -185,11 +187,14 @@ module _ (d : Definition) (shapes : List Shape) where
   -- a call reads all its arguments and their clocks; a function value that is only passed makes no call
   abbrev pub called : Note → Binder → ℕ → List Reading → Option Reading → Formed
   called n bound x args every = record {
-      needs = together (record {
-          now = bound_keys bound ++ clocks_keys (clocks_read args ++ n.ck ∷ []); before = [];
-          calls = if is_function n then [] else calls_of (head_shape bound x) (shapes_read args) })
+    needs = together (record {
+      now = bound_keys bound ++ clocks_keys (clocks_read args ++ n.ck ∷ []);
+      before = [];
+      calls = if is_function n then [] else calls_of (head_shape bound x) (shapes_read args);
+    })
         (together (all_needs args) (every_needs every));
-      shape = if is_function n then give_shapes (head_shape bound x) (shapes_read args) else a_stream }
+    shape = if is_function n then give_shapes (head_shape bound x) (shapes_read args) else a_stream;
+  }
 
   abbrev pub used : Note → Binder → ℕ → Formed
   used n (b.Def k) x = called n (b.Def k) x [] None
@@ -217,7 +222,10 @@ module _ (d : Definition) (shapes : List Shape) where
   -- every expression reads the names in its own clock
   abbrev pub expr_reading : Expr-F Note (Note → Formed) Reading → Reading
   expr_reading e = record {
-      note = e.note; needs = together (now_only (clock_keys e.note.ck)) (e.form e.note).needs; shape = (e.form e.note).shape }
+    note = e.note;
+    needs = together (now_only (clock_keys e.note.ck)) (e.form e.note).needs;
+    shape = (e.form e.note).shape;
+  }
 
   abbrev pub reading : E → Reading
   reading = fold-Expr Note (Note → Formed) Reading form_reading expr_reading
@@ -288,7 +296,7 @@ module _ (d : Definition) (shapes : List Shape) where
       together (now_only (mode_keys m p ++ key.Name (m + 1) ∷ [])) (guards_needs (m + 1) p 0 states)
   name_needs m (Some (named.Tested states p)) =
       together (now_only (mode_keys (m - 1) p ++ around_keys p))
-        (earlier (together (now_only (key.Name (m - 1) ∷ [])) (guards_needs (m - 1) p 0 states)))
+      (earlier (together (now_only (key.Name (m - 1) ∷ [])) (guards_needs (m - 1) p 0 states)))
 
   abbrev pub reset_needs : Option (E × Place) → Needs
   reset_needs None = nothing
