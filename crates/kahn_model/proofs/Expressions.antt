@@ -9,7 +9,7 @@ use Rattle.ls_sig.specs.Patterns.{names_of, joined}
 use Rattle.ls_sig.specs.declared.binder.Binder.{Binder}
 use Rattle.ls_sig.specs.declared.binder.Binder.TheVariants as b
 use Rattle.ls_sig.specs.declared.binder.Note.{Note}
-use Rattle.ls_terms.specs.declared.term.ClockTerm.{ClockTerm}
+use Rattle.ls_terms.specs.declared.clocks.ClockTerm.{ClockTerm}
 use Rattle.ls_value.specs.declared.leaf.Leaf.TheVariants as leaf
 use Rattle.kahn_model.specs.declared.cell.Cell.{Cell}
 use Rattle.kahn_model.specs.declared.cell.Cell.TheVariants.{Absent, Present}

@@ -31,8 +31,8 @@ use Rattle.ls_sig.specs.declared.places.Site.{Site}
 use Rattle.ls_sig.specs.declared.places.Start.{Start}
 use Rattle.ls_sig.specs.declared.places.Transition.{Transition}
 use Rattle.ls_sig.specs.declared.places.Variable.{Variable}
-use Rattle.ls_terms.specs.declared.term.ClockTerm.{ClockTerm, fold-ClockTerm, fold-roll-ClockTerm, ind-ClockTerm, map-ClockTerm, out-ClockTerm, roll-ClockTerm}
-use Rattle.ls_terms.specs.declared.term.ClockTerm.TheOpen.{ClockTerm-F}
+use Rattle.ls_terms.specs.declared.clocks.ClockTerm.{ClockTerm, fold-ClockTerm, fold-roll-ClockTerm, ind-ClockTerm, map-ClockTerm, out-ClockTerm, roll-ClockTerm}
+use Rattle.ls_terms.specs.declared.clocks.ClockTerm.TheOpen.{ClockTerm-F}
 use Rattle.kahn_model.specs.Functions
 use Rattle.kahn_model.proofs.Related
 use Rattle.kahn_model.specs.Search

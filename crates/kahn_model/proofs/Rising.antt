@@ -15,7 +15,7 @@ use Rattle.ls_sig.specs.declared.places.Site.{Site}
 use Rattle.ls_sig.specs.declared.places.Start.{Start}
 use Rattle.ls_sig.specs.declared.places.Transition.{Transition}
 use Rattle.ls_sig.specs.declared.places.Variable.{Variable}
-use Rattle.ls_terms.specs.declared.term.ClockTerm.{ClockTerm}
+use Rattle.ls_terms.specs.declared.clocks.ClockTerm.{ClockTerm}
 use Rattle.kahn_model.specs.declared.cell.Cell.{Cell}
 use Rattle.kahn_model.specs.declared.cell.Cell.TheVariants.{Absent, Silent, Present}
 use Rattle.kahn_model.specs.declared.cell.Key.{Key}

@@ -4,8 +4,8 @@ use Rattle.std.specs.Prelude.{ℕ, suc, ◌+◌, ◌-◌, List, [], ◌∷◌, �
 use Rattle.ls_ast.specs.declared.tree.Expr.{Expr-F, fold-Expr}
 use Rattle.ls_ast.specs.declared.tree.Form.TheOpen.{Form-F}
 use Rattle.ls_ast.specs.declared.tree.Pat.{Pat}
-use Rattle.ls_terms.specs.declared.term.ClockTerm.{ClockTerm, fold-ClockTerm}
-use Rattle.ls_terms.specs.declared.term.ClockTerm.TheOpen.{ClockTerm-F}
+use Rattle.ls_terms.specs.declared.clocks.ClockTerm.{ClockTerm, fold-ClockTerm}
+use Rattle.ls_terms.specs.declared.clocks.ClockTerm.TheOpen.{ClockTerm-F}
 use Rattle.ls_sig.specs.Patterns.{names_of, joined}
 use Rattle.ls_sig.specs.Places.{Place, InnerArm, arms}
 use Rattle.ls_sig.specs.declared.binder.Binder.{Binder}

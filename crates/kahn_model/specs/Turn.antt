@@ -6,8 +6,8 @@ use Rattle.ls_ast.specs.declared.tree.Case.{Case}
 use Rattle.ls_ast.specs.declared.tree.Case.TheVariants as case
 use Rattle.ls_ast.specs.declared.tree.Expr.{Expr-F, fold-Expr}
 use Rattle.ls_ast.specs.declared.tree.Form.TheOpen.{Form-F}
-use Rattle.ls_terms.specs.declared.term.ClockTerm.{ClockTerm, fold-ClockTerm, out-ClockTerm}
-use Rattle.ls_terms.specs.declared.term.ClockTerm.TheOpen.{ClockTerm-F}
+use Rattle.ls_terms.specs.declared.clocks.ClockTerm.{ClockTerm, fold-ClockTerm, out-ClockTerm}
+use Rattle.ls_terms.specs.declared.clocks.ClockTerm.TheOpen.{ClockTerm-F}
 use Rattle.ls_sig.specs.Places.{Place, InnerArm, arms}
 use Rattle.ls_sig.specs.declared.binder.Binder.{Binder}
 use Rattle.ls_sig.specs.declared.binder.Binder.TheVariants as b

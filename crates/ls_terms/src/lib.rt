@@ -1,6 +1,8 @@
-//! Terms of types and of clocks.
+//! The terms of types and of clocks.
 #![tactic(auto)]
 
-mod term;
+mod clocks;
+mod types;
 
-pub use term::{ClockTerm, Kind, TypeTerm};
+pub use clocks::ClockTerm;
+pub use types::{Kind, TypeTerm};

@@ -1,3 +1,5 @@
+//! The terms of types.
+
 use ls_base::{Boxed, List};
 
 /// Whether a function is combinatorial (`->`) or sequential (`=>`).
@@ -20,13 +22,4 @@ pub enum TypeTerm {
     Tuple(List<TypeTerm>),
     Arrow(Kind, List<TypeTerm>, Boxed<TypeTerm>),
     Signal(Boxed<TypeTerm>),
-}
-
-/// A clock.
-#[derive(Debug, Drop)]
-pub enum ClockTerm {
-    Var(u32),
-    On(Boxed<ClockTerm>, u32, u32),
-    Pointwise,
-    Arrow(List<ClockTerm>, Boxed<ClockTerm>),
 }
