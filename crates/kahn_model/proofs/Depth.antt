@@ -66,7 +66,7 @@ module _ (cases : ℕ → Option ℕ) (defs : List Definition) (n : ℕ) where
     turn_of = turn cases defs call d a
 
     same_around : (T T' : Table) → TableBelow T T' → TableBelow (turn_of T) (turn_of T')
-    same_around T T' p = turn_below cases defs call mono d a a (refl_around a) T T' p
+    same_around T T' p = turn_below cases defs call call mono d a a (refl_around a) T T' p
 
     row_calls : (k : Key) → HasKey k (row_keys d) → All Ok (key_needs d shapes k).calls
     row_calls k h = of_row Ok (λ l. (key_needs d shapes l).calls) (row_keys d) k

@@ -12,3 +12,4 @@ pub mod Needed
 pub mod Expressions
 pub mod Rising
 pub mod Depth
+pub mod Prefix

@@ -94,12 +94,12 @@ module _ (cases : ℕ → Option ℕ) (defs : List Definition) (n : ℕ) where
       let R : Rows = Table.after (row_keys d) n (Turn.turn cases defs call d a) t in
       let S : Rows = Table.after (row_keys d) n (Turn.turn cases defs call d a') t in
       written_below (row_keys d) n (Turn.turn cases defs call d a (read R)) (Turn.turn cases defs call d a' (read S))
-      (turn_below cases defs call mono d a a' ab (read R) (read S) (read_below R S (rows_below call mono d a a' ab t)))
+      (turn_below cases defs call call mono d a a' ab (read R) (read S) (read_below R S (rows_below call mono d a a' ab t)))
 
   body_below : (call : Meaning) (mono : Monotone call) (d : Option Definition) (a a' : Around) → AroundBelow a a' → RowBelow (body cases defs n call d a) (body cases defs n call d a')
   body_below call mono None a a' ab = λ i. none_below None
   body_below call mono (Some d) a a' ab =
-      answer_below cases defs call mono d a a' ab (read (table_of cases defs n call d a)) (read (table_of cases defs n call d a'))
+      answer_below cases defs call call mono d a a' ab (read (table_of cases defs n call d a)) (read (table_of cases defs n call d a'))
       (read_below (table_of cases defs n call d a) (table_of cases defs n call d a') (rows_below call mono d a a' ab (length (row_keys d) * n)))
 
   pub meaning_monotone : (depth : ℕ) → Monotone (meaning cases defs n depth)

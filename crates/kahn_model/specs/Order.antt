@@ -31,6 +31,9 @@ pub record AroundBelow (a a' : Around) : Type 0 where
 abbrev pub TableBelow : Table → Table → Type 0
 TableBelow T T' = (k : Key) → RowBelow (T k) (T' k)
 
--- more around a body gives no less, and nothing that is known becomes another
+-- for more around a body the second gives no less than the first, and nothing that is known becomes another
+abbrev pub MeaningBelow : Meaning → Meaning → Type 0
+MeaningBelow call call' = (k : ℕ) (a a' : Around) → AroundBelow a a' → RowBelow (call k a) (call' k a')
+
 abbrev pub Monotone : Meaning → Type 0
-Monotone call = (k : ℕ) (a a' : Around) → AroundBelow a a' → RowBelow (call k a) (call k a')
+Monotone call = MeaningBelow call call
