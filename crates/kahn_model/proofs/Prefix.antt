@@ -1,6 +1,6 @@
 -- What holds of some lines holds of these with more after them.
-use Rattle.std.specs.Prelude.{◌≡◌, refl, ℕ, zero, suc, ◌+◌, ◌-◌, ◌*◌, ◌≤◌, List, [], ◌∷◌, length, Option, Some, None}
-use Rattle.std.proofs.Common.{ap, subst, sym, arith}
+use Rattle.std.specs.Prelude.{◌≡◌, ℕ, zero, suc, ◌+◌, ◌-◌, ◌*◌, ◌≤◌, List, [], ◌∷◌, length, Option, Some, None}
+use Rattle.std.proofs.Common.{subst, arith}
 use Rattle.kahn_model.specs.declared.cell.Cell.{Cell}
 use Rattle.kahn_model.specs.declared.cell.Key.{Key}
 use Rattle.kahn_model.specs.declared.definition.Definition.{Definition}
@@ -40,7 +40,7 @@ module _ (ks : List Key) (n n' : ℕ) (more : n ≤ n') (turn_of turn_of' : Tabl
   longer t zero k i = subst (λ m. Below (read (Table.after ks n' turn_of' t) k i) (read (Table.after ks n' turn_of' m) k i)) (plus_none t) (below_refl (read (Table.after ks n' turn_of' t) k i))
   longer t (suc s) k i = subst (λ m. Below (read (Table.after ks n' turn_of' t) k i) (read (Table.after ks n' turn_of' m) k i)) (plus_suc t s)
       (below_trans (read (Table.after ks n' turn_of' t) k i) (read (Table.after ks n' turn_of' (t + s)) k i) (read (Table.after ks n' turn_of' (suc (t + s))) k i) (longer t s k i)
-        (read_below (Table.after ks n' turn_of' (t + s)) (Table.after ks n' turn_of' (suc (t + s))) (rising ks n' turn_of' mono' (t + s)) k i))
+      (read_below (Table.after ks n' turn_of' (t + s)) (Table.after ks n' turn_of' (suc (t + s))) (rising ks n' turn_of' mono' (t + s)) k i))
 
   turns_sum : length ks * n + length ks * (n' - n) ≡ length ks * n'
   turns_sum = subst (λ m. length ks * n + length ks * (n' - n) ≡ length ks * m) (rest_sum n n' more) (times_plus (length ks) n (n' - n))

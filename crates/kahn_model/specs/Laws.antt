@@ -7,7 +7,7 @@ use Rattle.kahn_model.specs.Rows.{Row, RowBelow, IsKnown}
 use Rattle.kahn_model.specs.Functions.{Arg, Around, Meaning}
 use Rattle.kahn_model.specs.Turn.{Table, turn}
 use Rattle.kahn_model.specs.Table.{Rows, read, row_keys, Solution, table, table_of, meaning, network}
-use Rattle.kahn_model.specs.Order.{AroundBelow, TableBelow, Monotone}
+use Rattle.kahn_model.specs.Order.{ArgsBelow, AroundBelow, TableBelow, Monotone}
 use Rattle.kahn_model.specs.Fullness.{All, Full, HasKey}
 use Rattle.kahn_model.specs.Reads.{shapes_of}
 use Rattle.kahn_model.specs.Causality.{ArgTo, AroundTo, Sound, SoundBody}
@@ -98,3 +98,15 @@ BodyOnly = (cases : ℕ → Option ℕ) (defs : List Definition) (n depth : ℕ)
 abbrev pub NetworkKnown : Type 0
 NetworkKnown = (cases : ℕ → Option ℕ) (defs : List Definition) (n k : ℕ) (args : List Arg) (i : ℕ) → i < n
     → Sound defs 201 k (shapes_of args) → All (ArgTo i) args → IsKnown (network cases defs n k args i)
+
+-- ---- more lines
+
+-- what is known of a node's result on some lines is known of it on these with more after them
+abbrev pub MoreLines : Type 0
+MoreLines = (cases : ℕ → Option ℕ) (defs : List Definition) (n n' k : ℕ) (args args' : List Arg) → n ≤ n' → ArgsBelow args args'
+    → RowBelow (network cases defs n k args) (network cases defs n' k args')
+
+-- so the result of a node at an instant goes by the lines up to this instant alone
+abbrev pub EarlierLinesAlone : Type 0
+EarlierLinesAlone = (cases : ℕ → Option ℕ) (defs : List Definition) (n n' k : ℕ) (args args' : List Arg) (i : ℕ) → i < n → n ≤ n' → ArgsBelow args args'
+    → Sound defs 201 k (shapes_of args) → All (ArgTo i) args → network cases defs n' k args' i ≡ network cases defs n k args i
