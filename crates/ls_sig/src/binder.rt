@@ -58,3 +58,28 @@ impl NoteCopy for Use {
         Ok(Use { bound: self.bound })
     }
 }
+
+impl NoteCopy for Binder {
+    fn copy(&self, _alloc: Global) -> Result<Binder, NoMemory> {
+        Ok(*self)
+    }
+}
+
+impl NoteCopy for TypeNote {
+    fn copy(&self, alloc: Global) -> Result<TypeNote, NoMemory> {
+        Ok(TypeNote {
+            bound: self.bound,
+            ty: self.ty.copy(alloc)?,
+        })
+    }
+}
+
+impl NoteCopy for Note {
+    fn copy(&self, alloc: Global) -> Result<Note, NoMemory> {
+        Ok(Note {
+            bound: self.bound,
+            ty: self.ty.copy(alloc)?,
+            ck: self.ck.copy(alloc)?,
+        })
+    }
+}

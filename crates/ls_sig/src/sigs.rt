@@ -1,8 +1,11 @@
 //! Signatures of definitions, and the numbering of what a definition computes.
 
+ghost use Rattle.std.specs.Prelude.{◌≡◌, IfOk};
+
 use ls_ast::Mark;
-use ls_base::{List, Name};
+use ls_base::{List, Name, NoMemory, NoteCopy};
 use ls_terms::{ClockTerm, Kind, TypeTerm};
+use std::alloc::Global;
 
 /// The signature of a definition: its type scheme and its clock scheme. The lists have an item
 /// for each parameter.
@@ -52,4 +55,51 @@ pub enum Item {
 #[derive(Debug, Drop)]
 pub struct Ranks {
     pub list: List<List<(Item, u32)>>,
+}
+
+impl NoteCopy for Sig {
+    fn copy(&self, alloc: Global) -> Result<Sig, NoMemory> {
+        Ok(Sig {
+            name: self.name,
+            kind: self.kind,
+            marks: self.marks.copy(alloc)?,
+            params: self.params.copy(alloc)?,
+            result: self.result.copy(alloc)?,
+            clocks: self.clocks.copy(alloc)?,
+            result_clock: self.result_clock.copy(alloc)?,
+            clock_names: self.clock_names.copy(alloc)?,
+        })
+    }
+}
+
+impl NoteCopy for InitSig {
+    fn copy(&self, alloc: Global) -> Result<InitSig, NoMemory> {
+        Ok(InitSig {
+            may: self.may.copy(alloc)?,
+            reaches: self.reaches.copy(alloc)?,
+            own: self.own,
+        })
+    }
+}
+
+impl NoteCopy for InitSigs {
+    fn copy(&self, alloc: Global) -> Result<InitSigs, NoMemory> {
+        Ok(InitSigs {
+            list: self.list.copy(alloc)?,
+        })
+    }
+}
+
+impl NoteCopy for Item {
+    fn copy(&self, _alloc: Global) -> Result<Item, NoMemory> {
+        Ok(*self)
+    }
+}
+
+impl NoteCopy for Ranks {
+    fn copy(&self, alloc: Global) -> Result<Ranks, NoMemory> {
+        Ok(Ranks {
+            list: self.list.copy(alloc)?,
+        })
+    }
 }
