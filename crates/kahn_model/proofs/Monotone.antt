@@ -5,7 +5,7 @@ use Rattle.kahn_model.proofs.Below.{AllBelow, below_refl, both_below, either_bel
 use Rattle.kahn_model.proofs.Related.{in_choices, related}
 use Rattle.kahn_model.specs.Cells.{after_first, at, emitted, is_case, is_here, is_yes, part, restarts, say, value_in, values_in}
 use Rattle.kahn_model.specs.Clocks.{bare, is_function, meets, meets_all}
-use Rattle.kahn_model.specs.Functions.{Arg, Around, Meaning, Said, arg_at, args_said, cells_at, clocks_said, def, given, has_name, param_in, part_arg, row_of, stream}
+use Rattle.kahn_model.specs.Functions.{Arg, Around, Meaning, Said, arg_at, args_said, cells_at, clocks_said, def, given, has_name, nowhere, param_in, part_arg, row_of, stream}
 use Rattle.kahn_model.specs.Order.{ArgBelow, ArgsBelow, AroundBelow, ClocksBelow, MeaningBelow, TableBelow}
 use Rattle.kahn_model.specs.Rows.{Below, Row, RowBelow, either, know, know_all, previous}
 use Rattle.kahn_model.specs.Search.{nth, signal_in, sites_of, start_of}
@@ -479,14 +479,21 @@ module _ (cases : ℕ → Option ℕ) (defs : List Definition) (call call' : Mea
       (by_reach_below (Turn.right_cell cases defs call d a T w.name s.place s.right i) (Turn.right_cell cases defs call' d a' T' w.name s.place s.right i)
       (Turn.by_sites cases defs call d a T w o rest i) (Turn.by_sites cases defs call' d a' T' w o' rest i) w.signal (right_below w.name s.place s.right i) (by_sites_below w o o' rest q i))
 
+  otherwise_below : (x : ℕ) (w : Variable) → RowBelow (Turn.otherwise cases defs call d a T x w) (Turn.otherwise cases defs call' d a' T' x w)
+  otherwise_below x w =
+      let t : Bool = Search.lacks d (sites_of x d.places.sites) in
+      if_rel RowBelow w.signal (λ j. Some Silent) (λ j. Some Silent)
+        (if t then Turn.last cases defs call d a T x else nowhere) (if t then Turn.last cases defs call' d a' T' x else nowhere)
+        (λ j. below_refl (Some Silent))
+        (if_rel RowBelow t (Turn.last cases defs call d a T x) (Turn.last cases defs call' d a' T' x) nowhere nowhere (last_below x) (λ i. below_refl (nowhere i)))
+
   variable_below : (x : ℕ) (w : Option Variable) → RowBelow (Turn.variable_cell cases defs call d a T x w) (Turn.variable_cell cases defs call' d a' T' x w)
   variable_below x None = λ i x e. e
   variable_below x (Some w) = λ i. at_below (Turn.variable_here cases defs call d a T x i) (Turn.variable_here cases defs call' d a' T' x i)
-      (Turn.by_sites cases defs call d a T w (if w.signal then (λ j. Some Silent) else Turn.last cases defs call d a T x) (sites_of x d.places.sites) i)
-      (Turn.by_sites cases defs call' d a' T' w (if w.signal then (λ j. Some Silent) else Turn.last cases defs call' d a' T' x) (sites_of x d.places.sites) i)
+      (Turn.by_sites cases defs call d a T w (Turn.otherwise cases defs call d a T x w) (sites_of x d.places.sites) i)
+      (Turn.by_sites cases defs call' d a' T' w (Turn.otherwise cases defs call' d a' T' x w) (sites_of x d.places.sites) i)
       (variable_here_below x i)
-      (by_sites_below w (if w.signal then (λ j. Some Silent) else Turn.last cases defs call d a T x) (if w.signal then (λ j. Some Silent) else Turn.last cases defs call' d a' T' x) (sites_of x d.places.sites)
-      (if_rel RowBelow w.signal (λ j. Some Silent) (λ j. Some Silent) (Turn.last cases defs call d a T x) (Turn.last cases defs call' d a' T' x) (λ j. below_refl (Some Silent)) (last_below x)) i)
+      (by_sites_below w (Turn.otherwise cases defs call d a T x w) (Turn.otherwise cases defs call' d a' T' x w) (sites_of x d.places.sites) (otherwise_below x w) i)
 
   start_below : (s : Option (Start Note)) → RowBelow (Turn.start_cell cases defs call d a T s) (Turn.start_cell cases defs call' d a' T' s)
   start_below None = λ i. below_refl (Some Absent)

@@ -26,7 +26,7 @@ use Rattle.kahn_model.specs.Values.{nil}
 use Rattle.kahn_model.specs.Cells.{part}
 use Rattle.kahn_model.specs.Clocks.{bare}
 use Rattle.kahn_model.specs.Functions
-use Rattle.kahn_model.specs.Functions.{Around, Meaning, param_in, row_of}
+use Rattle.kahn_model.specs.Functions.{Around, Meaning, nowhere, param_in, row_of}
 use Rattle.kahn_model.specs.Fullness.{All}
 use Rattle.kahn_model.specs.Causality.{RowTo, ArgTo, AroundTo}
 use Rattle.kahn_model.specs.Search
@@ -175,19 +175,24 @@ module _ (cases : ℕ → Option ℕ) (defs : List Definition) (call : Meaning) 
   if_met true r s m n i f g h = f h
   if_met false r s m n i f g h = g h
 
+  otherwise_known : (x : ℕ) (w : Variable) → nth d.places.vars x ≡ Some w → (i : ℕ) → i ≤ top → Met' i (Reads.otherwise_needs d shapes x w) → IsKnown (Turn.otherwise cases defs call d a T x w i)
+  otherwise_known x w is i t m =
+      let l : Bool = Search.lacks d (sites_of x d.places.sites) in
+      let some : Needs = Reads.last_needs_of d shapes x (Some w) in
+      if_met w.signal (λ j. Some Silent) (if l then Turn.last cases defs call d a T x else nowhere) nothing (if l then some else nothing) i
+        (λ z. some_known Silent)
+        (λ n. if_met l (Turn.last cases defs call d a T x) nowhere some nothing i
+          (λ z. subst (λ v. IsKnown (Turn.last_of cases defs call d a T x v i)) (sym is) (last_of_known x (Some w) i t z)) (λ z. some_known Absent) n) m
+
   variable_known : (x : ℕ) (w : Option Variable) → nth d.places.vars x ≡ w → (i : ℕ) → i ≤ top → Met' i (Reads.variable_needs d shapes x w) → IsKnown (Turn.variable_cell cases defs call d a T x w i)
   variable_known x None is i t m = some_known Absent
   variable_known x (Some w) is i t m =
       let cs : Needs = now_only (Reads.variable_clock_keys d shapes x) in
-      let o : Needs = if w.signal then nothing else Reads.last_needs_of d shapes x (Some w) in
-      let row : Row Cell = if w.signal then (λ j. Some Silent) else Turn.last cases defs call d a T x in
+      let o : Needs = Reads.otherwise_needs d shapes x w in
       let ss : Needs = Reads.sites_needs d shapes o (sites_of x d.places.sites) in
-      at_known (Turn.variable_here cases defs call d a T x i) (Turn.by_sites cases defs call d a T w row (sites_of x d.places.sites) i)
-      (variable_here_known x i t (met_left Ok T i cs ss m).is_now)
-      (sites_known w row o i t (λ n. if_met w.signal (λ j. Some Silent) (Turn.last cases defs call d a T x) nothing (Reads.last_needs_of d shapes x (Some w)) i
-      (λ z. some_known Silent)
-      (λ z. subst (λ v. IsKnown (Turn.last_of cases defs call d a T x v i)) (sym is) (last_of_known x (Some w) i t z)) n)
-      (sites_of x d.places.sites) (met_right Ok T i cs ss m))
+      at_known (Turn.variable_here cases defs call d a T x i) (Turn.by_sites cases defs call d a T w (Turn.otherwise cases defs call d a T x w) (sites_of x d.places.sites) i)
+        (variable_here_known x i t (met_left Ok T i cs ss m).is_now)
+        (sites_known w (Turn.otherwise cases defs call d a T x w) o i t (λ n. otherwise_known x w is i t n) (sites_of x d.places.sites) (met_right Ok T i cs ss m))
 
   start_known : (s : Option (Start Note)) (i : ℕ) → i ≤ top → Met' i (Reads.start_needs d shapes s) → IsKnown (Turn.start_cell cases defs call d a T s i)
   start_known None i t m = some_known Absent

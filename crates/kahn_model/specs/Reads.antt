@@ -26,7 +26,7 @@ use Rattle.kahn_model.specs.declared.cell.Key.TheVariants as key
 use Rattle.kahn_model.specs.declared.definition.Definition.{Definition}
 use Rattle.kahn_model.specs.Clocks.{bare, choice_parts, is_function}
 use Rattle.kahn_model.specs.Functions.{Arg, stream, def, given, has_name}
-use Rattle.kahn_model.specs.Search.{E, nth, in_signature, home_of, mode_clock, sites_of, start_of, signal_in}
+use Rattle.kahn_model.specs.Search.{E, nth, lacks, in_signature, home_of, mode_clock, sites_of, start_of, signal_in}
 
 -- what an argument is apart from its rows: a stream, a definition, or a function with one more argument
 pub data Shape : Type 0 where
@@ -248,19 +248,23 @@ module _ (d : Definition) (shapes : List Shape) where
   right_needs place (rhs.Whole e) = needs_at place e
   right_needs place (rhs.Pattern y p) = now_only (signal_keys place y)
 
-  -- all equations of a variable; where each stands in an arm, `last x` besides
+  -- `last x`, if some arm has no equation for x
+  abbrev pub otherwise_needs : ℕ → Variable → Needs
+  otherwise_needs x w = if w.signal then nothing else (if lacks d (sites_of x d.places.sites) then last_needs_of x (Some w) else nothing)
+
+  -- all equations of a variable, together with the blocks between
   abbrev pub site_needs : List InnerArm → Needs → Needs → Needs
   site_needs [] right more = right
   site_needs (mj ∷ inner) right more = together (together (now_only (arm_keys (mj ∷ inner))) right) more
 
   abbrev pub sites_needs : Needs → List (Site Note) → Needs
-  sites_needs otherwise [] = otherwise
-  sites_needs otherwise (s ∷ rest) = site_needs s.inner (right_needs s.place s.right) (sites_needs otherwise rest)
+  sites_needs more [] = more
+  sites_needs more (s ∷ rest) = site_needs s.inner (right_needs s.place s.right) (sites_needs more rest)
 
   abbrev pub variable_needs : ℕ → Option Variable → Needs
   variable_needs x None = nothing
   variable_needs x (Some w) = together (now_only (variable_clock_keys x))
-      (sites_needs (if w.signal then nothing else last_needs_of x (Some w)) (sites_of x d.places.sites))
+      (sites_needs (otherwise_needs x w) (sites_of x d.places.sites))
 
   abbrev pub start_needs : Option (Start Note) → Needs
   start_needs None = nothing

@@ -1,12 +1,15 @@
 -- Looking things up among what stands in a body.
-use Rattle.std.specs.Prelude.{ℕ, zero, suc, ◌+◌, ◌==◌, ◌&&◌, Bool, true, false, List, [], ◌∷◌, ◌++◌, map, Option, Some, None, if◌then◌else◌}
+use Rattle.std.specs.Prelude.{ℕ, zero, suc, ◌+◌, ◌-◌, ◌==◌, ◌&&◌, ◌||◌, Bool, true, false, List, [], ◌∷◌, ◌++◌, map, length, Option, Some, None, if◌then◌else◌}
 use Rattle.ls_value.specs.declared.leaf.Leaf.TheVariants as leaf
 use Rattle.ls_ast.specs.declared.tree.Expr.{Expr}
 use Rattle.ls_terms.specs.declared.clocks.ClockTerm.{ClockTerm}
-use Rattle.ls_sig.specs.Places.{Place, InnerArm, arms}
+use Rattle.ls_sig.specs.Patterns.{joined}
+use Rattle.ls_sig.specs.Places.{Place, InnerArm, arms, option_list}
 use Rattle.ls_sig.specs.declared.binder.Binder.{Binder}
 use Rattle.ls_sig.specs.declared.binder.Binder.TheVariants as b
 use Rattle.ls_sig.specs.declared.binder.Note.{Note}
+use Rattle.ls_sig.specs.declared.places.Named.{Named}
+use Rattle.ls_sig.specs.declared.places.Named.TheVariants as named
 use Rattle.ls_sig.specs.declared.places.Site.{Site}
 use Rattle.ls_sig.specs.declared.places.Variable.{Variable}
 use Rattle.ls_sig.specs.declared.places.Start.{Start}
@@ -117,6 +120,52 @@ arm_of k (Some c ∷ all) j = if c == k then Some j else arm_of k all (suc j)
 -- the arm that a scrutinee chooses: none where it is Nil
 abbrev pub chosen_arm : List (Option ℕ) → Value → Option ℕ
 chosen_arm all w = elim (case_of w) [ None ↦ None | Some k ↦ arm_of k all 0 ]
+
+-- ---- arms without an equation
+
+-- the number of arms of a block
+abbrev pub arm_count : Option (Named Note) → ℕ
+arm_count (Some (named.Match e all p)) = length all
+arm_count (Some (named.Present xs p)) = suc (length xs)
+arm_count (Some (named.Active states p)) = length states
+arm_count _ = 0
+
+-- the arms around an equation, without the outermost, for those in this arm
+abbrev pub path_inside : InnerArm → List InnerArm → Option (List InnerArm)
+path_inside mj [] = None
+path_inside mj (a ∷ path) = if a.0 == mj.0 && a.1 == mj.1 then Some path else None
+
+abbrev pub paths_inside : InnerArm → List (List InnerArm) → List (List InnerArm)
+paths_inside mj [] = []
+paths_inside mj (path ∷ paths) = option_list (path_inside mj path) ++ paths_inside mj paths
+
+abbrev pub is_empty : {A : Type 0} → List A → Bool
+is_empty [] = true
+is_empty (x ∷ xs) = false
+
+-- the block that the first equation stands in
+abbrev pub outer_block : List (List InnerArm) → ℕ
+outer_block ((a ∷ path) ∷ paths) = a.0
+outer_block _ = 0
+
+-- the numbers from `k` on, `n` of them
+abbrev pub count_up : ℕ → ℕ → List ℕ
+count_up zero k = []
+count_up (suc n) k = k ∷ count_up n (suc k)
+
+-- Whether some arm, of the blocks that the equations at these places stand in, has none of them: looked for at most so
+-- many blocks deep.
+abbrev pub lacks_within : Definition → ℕ → List (List InnerArm) → Bool
+lacks_within d zero paths = true
+lacks_within d (suc depth) paths = if any (map is_empty paths) then false else
+    (is_empty paths || any (map (λ j. lacks_within d depth (paths_inside (outer_block paths, j) paths))
+      (count_up (arm_count (nth d.places.names (outer_block paths - length d.params))) 0)))
+
+-- whether some arm has no equation for a variable that has these
+abbrev pub lacks : Definition → List (Site Note) → Bool
+lacks d all = lacks_within d (suc (length (joined (map (λ (s : Site Note). s.inner) all)))) (map (λ (s : Site Note). s.inner) all)
+
+-- ---- what equations and blocks say
 
 -- by an equation whose arms are active here, elsewhere, or nowhere since a scrutinee is Nil
 abbrev pub by_reach : Option Cell → Option Cell → Bool → Reach → Option Cell

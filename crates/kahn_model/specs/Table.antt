@@ -6,13 +6,8 @@ use Rattle.kahn_model.specs.declared.cell.Key.TheVariants as key
 use Rattle.kahn_model.specs.declared.definition.Definition.{Definition}
 use Rattle.kahn_model.specs.Rows.{Row}
 use Rattle.kahn_model.specs.Functions.{Arg, Around, Meaning}
-use Rattle.kahn_model.specs.Search.{nth}
+use Rattle.kahn_model.specs.Search.{count_up, nth}
 use Rattle.kahn_model.specs.Turn.{Table, turn, answer}
-
--- the numbers from `k` on, `n` of them
-abbrev pub count_up : ℕ → ℕ → List ℕ
-count_up zero k = []
-count_up (suc n) k = k ∷ count_up n (suc k)
 
 -- the rows of a body's table
 abbrev pub row_keys : Definition → List Key

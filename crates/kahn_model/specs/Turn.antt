@@ -34,7 +34,7 @@ use Rattle.kahn_model.specs.Values.{nil, tuple, case_of, eval}
 use Rattle.kahn_model.specs.Clocks.{bare, meets, meets_all, is_function}
 use Rattle.kahn_model.specs.Cells.{is_case, restarts, is_yes, emitted, is_here, value_in, values_in, say, part, at, after_first}
 use Rattle.kahn_model.specs.Functions.{Arg, stream, def, given, Around, Meaning, Said, nowhere, never_on, row_of, give_args, arg_at, param_in, cells_at, args_said, clocks_said}
-use Rattle.kahn_model.specs.Search.{same_number, and, E, nth, in_signature, home_of, mode_clock, sites_of, start_of, signal_in, state_of, chosen_arm, by_reach, yes_or, reach_case, guards_of, case_value}
+use Rattle.kahn_model.specs.Search.{same_number, and, E, nth, lacks, in_signature, home_of, mode_clock, sites_of, start_of, signal_in, state_of, chosen_arm, by_reach, yes_or, reach_case, guards_of, case_value}
 
 abbrev pub Table : Type 0
 Table = Key → Row Cell
@@ -240,15 +240,18 @@ module _ (cases : ℕ → Option ℕ) (defs : List Definition) (call : Meaning) 
 
   -- the first equation whose arms are active, and else the other row
   abbrev pub by_sites : Variable → Row Cell → List (Site Note) → Row Cell
-  by_sites w otherwise [] i = otherwise i
-  by_sites w otherwise (s ∷ rest) i =
-      know (reach s.inner i) (by_reach (right_cell w.name s.place s.right i) (by_sites w otherwise rest i) w.signal)
+  by_sites w more [] i = more i
+  by_sites w more (s ∷ rest) i =
+      know (reach s.inner i) (by_reach (right_cell w.name s.place s.right i) (by_sites w more rest i) w.signal)
 
-  -- a variable is `last x` where no equation for it is active, and a signal is not emitted there
+  -- where no equation for a variable is active: a signal is not emitted, and another is `last x`, if some arm has no equation
+  -- for it
+  abbrev pub otherwise : ℕ → Variable → Row Cell
+  otherwise x w = if w.signal then (λ j. Some Silent) else (if lacks d (sites_of x d.places.sites) then last x else nowhere)
+
   abbrev pub variable_cell : ℕ → Option Variable → Row Cell
   variable_cell x None i = Some Absent
-  variable_cell x (Some w) i =
-      at (variable_here x i) (by_sites w (if w.signal then (λ j. Some Silent) else last x) (sites_of x d.places.sites) i)
+  variable_cell x (Some w) i = at (variable_here x i) (by_sites w (otherwise x w) (sites_of x d.places.sites) i)
 
   abbrev pub start_cell : Option (Start Note) → Row Cell
   start_cell None i = Some Absent
