@@ -13,3 +13,4 @@ pub mod Expressions
 pub mod Rising
 pub mod Depth
 pub mod Prefix
+pub mod AlarmBelow

@@ -138,7 +138,7 @@ module _ (cases : ℕ → Option ℕ) (defs : List Definition) (call call' : Mea
   active_from_below r r' (mj ∷ p) q = active_from_below (λ i. say (is_case mj.1) (T (key.Name mj.0) i)) (λ i. say (is_case mj.1) (T' (key.Name mj.0) i)) p
       (λ i. say_below (is_case mj.1) (T (key.Name mj.0) i) (T' (key.Name mj.0) i) (tb (key.Name mj.0) i))
 
-  active_below : (p : Place) → RowBelow (Turn.active cases defs call d a T p) (Turn.active cases defs call' d a' T' p)
+  pub active_below : (p : Place) → RowBelow (Turn.active cases defs call d a T p) (Turn.active cases defs call' d a' T' p)
   active_below p = active_from_below a.active a'.active (arms p) ab.active
 
   again_from_below : (r r' : Row Bool) (p : Place) → RowBelow r r'
@@ -149,7 +149,7 @@ module _ (cases : ℕ → Option ℕ) (defs : List Definition) (call call' : Mea
   again_from_below r r' (frame.Arm m j ∷ p) q = again_from_below (λ i. either (r i) (say (restarts j) (T (key.Name m) i))) (λ i. either (r' i) (say (restarts j) (T' (key.Name m) i))) p
       (λ i. either_below (r i) (r' i) (say (restarts j) (T (key.Name m) i)) (say (restarts j) (T' (key.Name m) i)) (q i) (say_below (restarts j) (T (key.Name m) i) (T' (key.Name m) i) (tb (key.Name m) i)))
 
-  again_below : (p : Place) → RowBelow (Turn.again cases defs call d a T p) (Turn.again cases defs call' d a' T' p)
+  pub again_below : (p : Place) → RowBelow (Turn.again cases defs call d a T p) (Turn.again cases defs call' d a' T' p)
   again_below p = again_from_below a.again a'.again p ab.again
 
   named_below : (n : Option (Named Note)) (m : ℕ) → RowBelow (Turn.named_row cases defs call d a T n m) (Turn.named_row cases defs call' d a' T' n m)
@@ -192,7 +192,7 @@ module _ (cases : ℕ → Option ℕ) (defs : List Definition) (call call' : Mea
   on_layer ClockTerm-F.Pointwise = λ i x e. e
   on_layer (ClockTerm-F.Arrow cks ck) = λ i x e. e
 
-  on_below : (ck : ClockTerm) → On ck
+  pub on_below : (ck : ClockTerm) → On ck
   on_below = ind-ClockTerm On (λ x y from. subst (λ z. On (roll-ClockTerm z)) from
       (subst (λ r. RowBelow r (fold-ClockTerm (Row Bool) step' (roll-ClockTerm (bare_terms y)))) (sym (fold-roll-ClockTerm (Row Bool) step (bare_terms y)))
       (subst (λ r. RowBelow (step (map-ClockTerm ClockTerm (Row Bool) (fold-ClockTerm (Row Bool) step) (bare_terms y))) r) (sym (fold-roll-ClockTerm (Row Bool) step' (bare_terms y))) (on_layer y))))
@@ -252,7 +252,7 @@ module _ (cases : ℕ → Option ℕ) (defs : List Definition) (call call' : Mea
   clocks_at_below k cks ck (ClockTerm-F.Arrow more result) = λ w. instance_below (nth defs k) (cks ++ more) result w
   clocks_at_below k cks ck _ = λ w. instance_below (nth defs k) cks ck w
 
-  head_below : (bound : Binder) (ck : ClockTerm) (x : ℕ) (cks : List ClockTerm) → ArgBelow (Turn.head_of cases defs call d a T bound ck x cks) (Turn.head_of cases defs call' d a' T' bound ck x cks)
+  pub head_below : (bound : Binder) (ck : ClockTerm) (x : ℕ) (cks : List ClockTerm) → ArgBelow (Turn.head_of cases defs call d a T bound ck x cks) (Turn.head_of cases defs call' d a' T' bound ck x cks)
   head_below (b.Def k) ck x cks = (refl, clocks_at_below k cks ck (out-ClockTerm ck))
   head_below (b.Var k) ck x cks = look_below (b.Var k) x
   head_below (b.Param k) ck x cks = look_below (b.Param k) x
@@ -265,7 +265,7 @@ module _ (cases : ℕ → Option ℕ) (defs : List Definition) (call call' : Mea
   own_or_below None (Some g) h h' p q w = absurd p
   own_or_below (Some f) None h h' p q w = absurd p
 
-  apply_below : (f f' : Arg) (xs xs' : List Arg) (h h' act act' rst rst' : Row Bool) → ArgBelow f f' → ArgsBelow xs xs' → RowBelow h h' → RowBelow act act' → RowBelow rst rst'
+  pub apply_below : (f f' : Arg) (xs xs' : List Arg) (h h' act act' rst rst' : Row Bool) → ArgBelow f f' → ArgsBelow xs xs' → RowBelow h h' → RowBelow act act' → RowBelow rst rst'
       → RowBelow (Turn.apply cases defs call d a T f xs h act rst) (Turn.apply cases defs call' d a' T' f' xs' h' act' rst')
   apply_below (stream r) (stream s) xs xs' h h' act act' rst rst' p q e g z = λ i x e. e
   apply_below (def k c) (def l c') xs xs' h h' act act' rst rst' p q e g z =
@@ -280,12 +280,12 @@ module _ (cases : ℕ → Option ℕ) (defs : List Definition) (call call' : Mea
   apply_below (given f x) (stream s) xs xs' h h' act act' rst rst' p q e g z = absurd p
   apply_below (given f x) (def l c') xs xs' h h' act act' rst rst' p q e g z = absurd p
 
-  abbrev EveryBelow : Option Said → Option Said → Type 0
+  abbrev pub EveryBelow : Option Said → Option Said → Type 0
   EveryBelow None None = Unit {0}
   EveryBelow (Some s) (Some t) = SaidBelow s t
   EveryBelow _ _ = ⊥
 
-  every_below : (r r' : Row Bool) (s t : Option Said) → RowBelow r r' → EveryBelow s t → RowBelow (Turn.every_too cases defs call d a T r s) (Turn.every_too cases defs call' d a' T' r' t)
+  pub every_below : (r r' : Row Bool) (s t : Option Said) → RowBelow r r' → EveryBelow s t → RowBelow (Turn.every_too cases defs call d a T r s) (Turn.every_too cases defs call' d a' T' r' t)
   every_below r r' None None p q = p
   every_below r r' (Some s) (Some t) p q = λ i. either_below (r i) (r' i) (say is_yes (row_of s.arg i)) (say is_yes (row_of t.arg i)) (p i)
       (say_below is_yes (row_of s.arg i) (row_of t.arg i) (row_below s.arg t.arg q.1 i))
@@ -341,16 +341,16 @@ module _ (cases : ℕ → Option ℕ) (defs : List Definition) (call call' : Mea
   on_clock_below n (given f x) (stream s) p = absurd p
   on_clock_below n (given f x) (def l e) p = absurd p
 
-  abbrev RelF : (Note → Arg) → (Note → Arg) → Type 0
+  abbrev pub RelF : (Note → Arg) → (Note → Arg) → Type 0
   RelF f g = (n : Note) → ArgBelow (f n) (g n)
 
-  abbrev TwoF : Type 0
+  abbrev pub TwoF : Type 0
   TwoF = (f : Note → Arg) × (g : Note → Arg) × RelF f g
 
-  abbrev TwoS : Type 0
+  abbrev pub TwoS : Type 0
   TwoS = (s : Said) × (t : Said) × SaidBelow s t
 
-  saids_two : (ps : List TwoS) → SaidsBelow (map {A = TwoS} {B = Said} (λ p. p.0) ps) (map {A = TwoS} {B = Said} (λ p. p.1) ps)
+  pub saids_two : (ps : List TwoS) → SaidsBelow (map {A = TwoS} {B = Said} (λ p. p.0) ps) (map {A = TwoS} {B = Said} (λ p. p.1) ps)
   saids_two [] = tt
   saids_two (p ∷ ps) = (p.2, saids_two ps)
 
@@ -358,22 +358,22 @@ module _ (cases : ℕ → Option ℕ) (defs : List Definition) (call call' : Mea
   choices_two [] = tt
   choices_two (p ∷ ps) = ((refl, p.1.2), choices_two ps)
 
-  know_all_then : {B : Type 0} (i : ℕ) (xs ys : List Said) (f : List Cell → B) → SaidsBelow xs ys
+  pub know_all_then : {B : Type 0} (i : ℕ) (xs ys : List Said) (f : List Cell → B) → SaidsBelow xs ys
       → Below (know (know_all (cells_at i xs)) (λ cs. Some (f cs))) (know (know_all (cells_at i ys)) (λ cs. Some (f cs)))
   know_all_then i xs ys f q = know_below (know_all (cells_at i xs)) (know_all (cells_at i ys)) (λ cs. Some (f cs)) (λ cs. Some (f cs))
       (know_all_below (cells_at i xs) (cells_at i ys) (cells_below i xs ys q)) (λ cs. below_refl (Some (f cs)))
 
   module _ (act act' rst rst' : Row Bool) (actb : RowBelow act act') (rstb : RowBelow rst rst') where
-    abbrev fs : Form-F Note (Note → Arg) Said → Note → Arg
+    abbrev pub fs : Form-F Note (Note → Arg) Said → Note → Arg
     fs = Turn.form_step cases defs call d a T act rst
 
-    abbrev fs' : Form-F Note (Note → Arg) Said → Note → Arg
+    abbrev pub fs' : Form-F Note (Note → Arg) Said → Note → Arg
     fs' = Turn.form_step cases defs call' d a' T' act' rst'
 
-    abbrev es : Expr-F Note (Note → Arg) Said → Said
+    abbrev pub es : Expr-F Note (Note → Arg) Said → Said
     es = Turn.expr_step cases defs call d a T
 
-    abbrev es' : Expr-F Note (Note → Arg) Said → Said
+    abbrev pub es' : Expr-F Note (Note → Arg) Said → Said
     es' = Turn.expr_step cases defs call' d a' T'
 
     abbrev before : Note → Row (Option ℕ)
@@ -385,10 +385,10 @@ module _ (cases : ℕ → Option ℕ) (defs : List Definition) (call call' : Mea
     before_below : (n : Note) → RowBelow (before n) (before' n)
     before_below n = previous_below (Turn.on cases defs call d a T n.ck) (Turn.on cases defs call' d a' T' n.ck) rst rst' (on_below n.ck) rstb
 
-    abbrev Lefts : Form-F Note TwoF TwoS → Form-F Note (Note → Arg) Said
+    abbrev pub Lefts : Form-F Note TwoF TwoS → Form-F Note (Note → Arg) Said
     Lefts = Related.lefts fs es fs' es' RelF SaidBelow
 
-    abbrev Rights : Form-F Note TwoF TwoS → Form-F Note (Note → Arg) Said
+    abbrev pub Rights : Form-F Note TwoF TwoS → Form-F Note (Note → Arg) Said
     Rights = Related.rights fs es fs' es' RelF SaidBelow
 
     delay : (n : Note) (i : ℕ) (c c' : Option Cell) (r r' : Row Cell) → Below c c' → RowBelow r r' → Below (know (before n i) (after_first c r)) (know (before' n i) (after_first c' r'))
@@ -405,7 +405,7 @@ module _ (cases : ℕ → Option ℕ) (defs : List Definition) (call call' : Mea
         (head_below n.bound n.ck x (clocks_said xs)))
         (saids_two args) q
 
-    layer : (y : Form-F Note TwoF TwoS) → RelF (fs (Lefts y)) (fs' (Rights y))
+    pub layer : (y : Form-F Note TwoF TwoS) → RelF (fs (Lefts y)) (fs' (Rights y))
     layer (Form-F.Leaf l) n = λ i. below_refl (Some (Present (v.Leaf l)))
     layer (Form-F.Case x) n = λ i. below_refl (Some (Present (Search.case_value n.bound)))
     layer (Form-F.Var x) n = used_below act act' rst rst' n n.bound x.0 actb rstb
@@ -426,13 +426,13 @@ module _ (cases : ℕ → Option ℕ) (defs : List Definition) (call call' : Mea
     layer (Form-F.Call run head args None) n = call_layer n head.0 args None None tt
     layer (Form-F.Call run head args (Some e)) n = call_layer n head.0 args (Some e.0) (Some e.1) e.2
 
-    es_below : (n : Note) (p : TwoF) → SaidBelow (es (record { note = n; form = p.0 })) (es' (record { note = n; form = p.1 }))
+    pub es_below : (n : Note) (p : TwoF) → SaidBelow (es (record { note = n; form = p.0 })) (es' (record { note = n; form = p.1 }))
     es_below n p = (refl, on_clock_below n (p.0 n) (p.1 n) (p.2 n))
 
     said_below : (e : E) → SaidBelow (fold-Expr Note (Note → Arg) Said fs es e) (fold-Expr Note (Note → Arg) Said fs' es' e)
     said_below = related fs es fs' es' RelF SaidBelow layer es_below
 
-  cell_below : (p : Place) (e : E) → RowBelow (Turn.cell cases defs call d a T p e) (Turn.cell cases defs call' d a' T' p e)
+  pub cell_below : (p : Place) (e : E) → RowBelow (Turn.cell cases defs call d a T p e) (Turn.cell cases defs call' d a' T' p e)
   cell_below p e = row_below
       (fold-Expr Note (Note → Arg) Said (Turn.form_step cases defs call d a T (Turn.active cases defs call d a T p) (Turn.again cases defs call d a T p)) (Turn.expr_step cases defs call d a T) e).arg
       (fold-Expr Note (Note → Arg) Said (Turn.form_step cases defs call' d a' T' (Turn.active cases defs call' d a' T' p) (Turn.again cases defs call' d a' T' p)) (Turn.expr_step cases defs call' d a' T') e).arg
