@@ -99,14 +99,14 @@ module _ (cases : ℕ → Option ℕ) (defs : List Definition) (call : Meaning) 
   look_shape_is (b.Def k) x = refl
   look_shape_is (b.Case c k) x = refl
 
-  head_shape_is : (bound : Binder) (ck : ClockTerm) (x : ℕ) (cks : List ClockTerm) → shape_of (Turn.head_of cases defs call d a T bound ck x cks) ≡ Reads.head_shape d shapes bound x
+  pub head_shape_is : (bound : Binder) (ck : ClockTerm) (x : ℕ) (cks : List ClockTerm) → shape_of (Turn.head_of cases defs call d a T bound ck x cks) ≡ Reads.head_shape d shapes bound x
   head_shape_is (b.Def k) ck x cks = refl
   head_shape_is (b.Var k) ck x cks = refl
   head_shape_is (b.Param k) ck x cks = param_shape_is x d.params a.args
   head_shape_is b.Nothing ck x cks = refl
   head_shape_is (b.Case c k) ck x cks = refl
 
-  apply_known : (i : ℕ) → i ≤ top → (f : Arg) (xs : List Arg) (h act rst : Row Bool) → ArgTo i f → All (ArgTo i) xs → RowTo i h → RowTo i act → RowTo i rst
+  pub apply_known : (i : ℕ) → i ≤ top → (f : Arg) (xs : List Arg) (h act rst : Row Bool) → ArgTo i f → All (ArgTo i) xs → RowTo i h → RowTo i act → RowTo i rst
       → All Ok (calls_of (shape_of f) (shapes_of xs)) → IsKnown (Turn.apply cases defs call d a T f xs h act rst i)
   apply_known i t (stream r) xs h act rst p q e g z o = some_known Absent
   apply_known i t (def k c) xs h act rst p q e g z o = calls k i t (record { active = act; again = rst; clocks = unwrap_or c (λ w. h); args = xs }) o.0
@@ -124,43 +124,43 @@ module _ (cases : ℕ → Option ℕ) (defs : List Definition) (call : Meaning) 
   on_clock_shape n (given f x) = refl
 
   module _ (act rst : Row Bool) (act_known : RowTo top act) (rst_known : RowTo top rst) where
-    abbrev OnTo : ClockTerm → ℕ → Type 0
+    abbrev pub OnTo : ClockTerm → ℕ → Type 0
     OnTo ck i = (j : ℕ) → j ≤ i → IsKnown (on' ck j)
 
-    abbrev Holds : Said → Reading → Type 0
+    abbrev pub Holds : Said → Reading → Type 0
     Holds s r = (s.note ≡ r.note) × (shape_of s.arg ≡ r.shape) × ((i : ℕ) → i ≤ top → Met' i r.needs → ArgAt i s.arg)
 
-    abbrev HoldsF : (Note → Arg) → (Note → Formed) → Type 0
+    abbrev pub HoldsF : (Note → Arg) → (Note → Formed) → Type 0
     HoldsF f r = (n : Note) → (shape_of (f n) ≡ (r n).shape) × ((i : ℕ) → i ≤ top → OnTo n.ck i → Met' i (r n).needs → ArgAt i (f n))
 
-    abbrev TwoF : Type 0
+    abbrev pub TwoF : Type 0
     TwoF = (f : Note → Arg) × (r : Note → Formed) × HoldsF f r
 
-    abbrev TwoS : Type 0
+    abbrev pub TwoS : Type 0
     TwoS = (s : Said) × (r : Reading) × Holds s r
 
-    abbrev fs : Form-F Note (Note → Arg) Said → Note → Arg
+    abbrev pub fs : Form-F Note (Note → Arg) Said → Note → Arg
     fs = Turn.form_step cases defs call d a T act rst
 
-    abbrev es : Expr-F Note (Note → Arg) Said → Said
+    abbrev pub es : Expr-F Note (Note → Arg) Said → Said
     es = Turn.expr_step cases defs call d a T
 
-    abbrev fr : Form-F Note (Note → Formed) Reading → Note → Formed
+    abbrev pub fr : Form-F Note (Note → Formed) Reading → Note → Formed
     fr = Reads.form_reading d shapes
 
-    abbrev er : Expr-F Note (Note → Formed) Reading → Reading
+    abbrev pub er : Expr-F Note (Note → Formed) Reading → Reading
     er = Reads.expr_reading d shapes
 
-    abbrev Lefts : Form-F Note TwoF TwoS → Form-F Note (Note → Arg) Said
+    abbrev pub Lefts : Form-F Note TwoF TwoS → Form-F Note (Note → Arg) Said
     Lefts = Related.lefts fs es fr er HoldsF Holds
 
-    abbrev Rights : Form-F Note TwoF TwoS → Form-F Note (Note → Formed) Reading
+    abbrev pub Rights : Form-F Note TwoF TwoS → Form-F Note (Note → Formed) Reading
     Rights = Related.rights fs es fr er HoldsF Holds
 
-    abbrev ls : List TwoS → List Said
+    abbrev pub ls : List TwoS → List Said
     ls = map {A = TwoS} {B = Said} (λ p. p.0)
 
-    abbrev rs : List TwoS → List Reading
+    abbrev pub rs : List TwoS → List Reading
     rs = map {A = TwoS} {B = Reading} (λ p. p.1)
 
     is_known : (p : TwoS) (i : ℕ) → i ≤ top → Met' i p.1.needs → IsKnown (row_of p.0.arg i)
@@ -169,14 +169,14 @@ module _ (cases : ℕ → Option ℕ) (defs : List Definition) (call : Meaning) 
     arg_to : (p : TwoS) (i : ℕ) → i ≤ top → Met' i p.1.needs → ArgTo i p.0.arg
     arg_to p i t m j l = p.2.2 j (omega (arith, l, t)) (met_to Ok T i j p.1.needs l m)
 
-    all_cells : (ps : List TwoS) (i : ℕ) → i ≤ top → Met' i (all_needs (rs ps)) → All IsKnown (cells_at i (ls ps))
+    pub all_cells : (ps : List TwoS) (i : ℕ) → i ≤ top → Met' i (all_needs (rs ps)) → All IsKnown (cells_at i (ls ps))
     all_cells [] i t m = tt
     all_cells (p ∷ ps) i t m = (
       is_known p i t (met_left Ok T i p.1.needs (all_needs (rs ps)) m),
       all_cells ps i t (met_right Ok T i p.1.needs (all_needs (rs ps)) m),
     )
 
-    args_to : (ps : List TwoS) (i : ℕ) → i ≤ top → Met' i (all_needs (rs ps)) → All (ArgTo i) (args_said (ls ps))
+    pub args_to : (ps : List TwoS) (i : ℕ) → i ≤ top → Met' i (all_needs (rs ps)) → All (ArgTo i) (args_said (ls ps))
     args_to [] i t m = tt
     args_to (p ∷ ps) i t m = (
       arg_to p i t (met_left Ok T i p.1.needs (all_needs (rs ps)) m),
@@ -187,7 +187,7 @@ module _ (cases : ℕ → Option ℕ) (defs : List Definition) (call : Meaning) 
     cks_same [] = refl
     cks_same (p ∷ ps) = ap₂ (λ (n : Note) ns. n.ck ∷ ns) (sym p.2.0) (cks_same ps)
 
-    shapes_same : (ps : List TwoS) → shapes_of (args_said (ls ps)) ≡ shapes_read (rs ps)
+    pub shapes_same : (ps : List TwoS) → shapes_of (args_said (ls ps)) ≡ shapes_read (rs ps)
     shapes_same [] = refl
     shapes_same (p ∷ ps) = ap₂ (λ (s : Shape) ss. s ∷ ss) p.2.1 (shapes_same ps)
 
@@ -224,20 +224,20 @@ module _ (cases : ℕ → Option ℕ) (defs : List Definition) (call : Meaning) 
 
     -- ---- calls
 
-    abbrev left_every : Option TwoS → Option Said
+    abbrev pub left_every : Option TwoS → Option Said
     left_every None = None
     left_every (Some p) = Some p.0
 
-    abbrev right_every : Option TwoS → Option Reading
+    abbrev pub right_every : Option TwoS → Option Reading
     right_every None = None
     right_every (Some p) = Some p.1
 
-    every_to : (s : Option TwoS) (i : ℕ) → i ≤ top → Met' i (every_needs (right_every s)) → RowTo i (Turn.every_too cases defs call d a T rst (left_every s))
+    pub every_to : (s : Option TwoS) (i : ℕ) → i ≤ top → Met' i (every_needs (right_every s)) → RowTo i (Turn.every_too cases defs call d a T rst (left_every s))
     every_to None i t m j l = rst_known j (omega (arith, l, t))
     every_to (Some p) i t m j l = either_known (rst j) (say is_yes (row_of p.0.arg j)) (rst_known j (omega (arith, l, t)))
         (say_known cases defs call d a T top around shapes is_yes (row_of p.0.arg j) (row_known j p.0.arg (arg_to p i t m j l)))
 
-    abbrev head_needs : Note → Binder → ℕ → List Reading → Needs
+    abbrev pub head_needs : Note → Binder → ℕ → List Reading → Needs
     head_needs n bound x args = record {
       now = bound_keys bound ++ Reads.clocks_keys d shapes (clocks_read args ++ n.ck ∷ []);
       before = [];
@@ -251,7 +251,7 @@ module _ (cases : ℕ → Option ℕ) (defs : List Definition) (call : Meaning) 
         (subst (λ cks. All (Kn' i) (joined (map keys (cks ++ n.ck ∷ [])))) (cks_same ps)
         (all_right (Kn' i) (bound_keys bound) (Reads.clocks_keys d shapes (clocks_read (rs ps) ++ n.ck ∷ [])) m.is_now))
 
-    head_to : (n : Note) (bound : Binder) (x : ℕ) (ps : List TwoS) (i : ℕ) → i ≤ top → Met' i (head_needs n bound x (rs ps))
+    pub head_to : (n : Note) (bound : Binder) (x : ℕ) (ps : List TwoS) (i : ℕ) → i ≤ top → Met' i (head_needs n bound x (rs ps))
         → ArgTo i (Turn.head_of cases defs call d a T bound n.ck x (clocks_said (ls ps)))
     head_to n bound x ps i t m j l = head_at n bound x ps j (omega (arith, l, t)) (met_to Ok T i j (head_needs n bound x (rs ps)) l m)
 
@@ -305,7 +305,7 @@ module _ (cases : ℕ → Option ℕ) (defs : List Definition) (call : Meaning) 
     used_shape n (b.Case c k) x = look_shape_is (b.Case c k) x
 
     module _ (last_known : (bound : Binder) (i : ℕ) → i ≤ top → Met' i (Reads.last_needs d shapes bound) → IsKnown (Turn.last_bound cases defs call d a T bound i)) where
-      layer : (y : Form-F Note TwoF TwoS) → HoldsF (fs (Lefts y)) (fr (Rights y))
+      pub layer : (y : Form-F Note TwoF TwoS) → HoldsF (fs (Lefts y)) (fr (Rights y))
       layer (Form-F.Leaf l) n = (refl, λ i t o m. some_known (Present (v.Leaf l)))
       layer (Form-F.Case x) n = (refl, λ i t o m. some_known (Present (Search.case_value n.bound)))
       layer (Form-F.Var x) n = (used_shape n n.bound x.0, λ i t o m. used_holds n n.bound x.0 i t o m)
@@ -346,7 +346,7 @@ module _ (cases : ℕ → Option ℕ) (defs : List Definition) (call : Meaning) 
       layer (Form-F.Call run head args None) n = (call_shape n n.bound head.0 args None, λ i t o m. call_holds n n.bound head.0 args None i t o m)
       layer (Form-F.Call run head args (Some s)) n = (call_shape n n.bound head.0 args (Some s), λ i t o m. call_holds n n.bound head.0 args (Some s) i t o m)
 
-      es_holds : (n : Note) (p : TwoF) → Holds (es (record { note = n; form = p.0 })) (er (record { note = n; form = p.1 }))
+      pub es_holds : (n : Note) (p : TwoF) → Holds (es (record { note = n; form = p.0 })) (er (record { note = n; form = p.1 }))
       es_holds n p = (
         refl,
         on_clock_shape n (p.0 n) ∙ (p.2 n).0,

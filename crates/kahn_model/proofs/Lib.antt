@@ -14,3 +14,4 @@ pub mod Rising
 pub mod Depth
 pub mod Prefix
 pub mod AlarmBelow
+pub mod AlarmKnown

@@ -1,5 +1,5 @@
 -- What a row needs is known at an instant: what it reads then, all of it before, and the calls that it makes.
-use Rattle.std.specs.Prelude.{ℕ, ◌<◌, ◌≤◌, List}
+use Rattle.std.specs.Prelude.{suc, ℕ, ◌<◌, ◌≤◌, List}
 use Rattle.std.proofs.Common.{sym, subst, arith, inl, inr}
 use Rattle.kahn_model.specs.declared.cell.Key.{Key}
 use Rattle.kahn_model.specs.Rows.{IsKnown}
@@ -65,3 +65,28 @@ module _ (Ok : Call → Type 0) (T : Table) where
         is_now = up_at i j l r.now now';
         ok = m.ok;
       }
+
+  -- all of it is known up to an instant
+  pub record MetBy (i : ℕ) (r : Needs) : Type 0 where
+    pub by_now : All (Up (suc i)) r.now
+    pub by_before : All (Up (suc i)) r.before
+    pub ok : All Ok r.calls
+
+  pub met_by : (i : ℕ) (r : Needs) → MetBy i r → Met i r
+  met_by i r m = record {
+      was_now = up_less (suc i) i (omega arith) r.now m.by_now; was_before = up_less (suc i) i (omega arith) r.before m.by_before;
+      is_now = up_at (suc i) i (omega arith) r.now m.by_now; ok = m.ok }
+
+  pub by_left : (i : ℕ) (r s : Needs) → MetBy i (together r s) → MetBy i r
+  by_left i r s m = record {
+      by_now = all_left (Up (suc i)) r.now s.now m.by_now; by_before = all_left (Up (suc i)) r.before s.before m.by_before;
+      ok = all_left Ok r.calls s.calls m.ok }
+
+  pub by_right : (i : ℕ) (r s : Needs) → MetBy i (together r s) → MetBy i s
+  by_right i r s m = record {
+      by_now = all_right (Up (suc i)) r.now s.now m.by_now; by_before = all_right (Up (suc i)) r.before s.before m.by_before;
+      ok = all_right Ok r.calls s.calls m.ok }
+
+  pub by_earlier : (i : ℕ) (r : Needs) → MetBy i (earlier r) → MetBy i r
+  by_earlier i r m = record {
+      by_now = all_left (Up (suc i)) r.now r.before m.by_before; by_before = all_right (Up (suc i)) r.now r.before m.by_before; ok = m.ok }
