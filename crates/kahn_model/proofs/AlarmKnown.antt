@@ -5,6 +5,7 @@ use Rattle.ls_ast.specs.declared.tree.Case.{Case}
 use Rattle.ls_ast.specs.declared.tree.Expr.{Expr-F, fold-Expr}
 use Rattle.ls_ast.specs.declared.tree.Form.{map-Form}
 use Rattle.ls_ast.specs.declared.tree.Form.TheOpen.{Form-F}
+use Rattle.ls_sig.specs.Places.{Place}
 use Rattle.ls_sig.specs.declared.binder.Binder.{Binder}
 use Rattle.ls_sig.specs.declared.binder.Binder.TheVariants as b
 use Rattle.ls_sig.specs.declared.binder.Note.{Note}
@@ -23,12 +24,13 @@ use Rattle.kahn_model.specs.Turn.{Table}
 use Rattle.kahn_model.specs.Alarm
 use Rattle.kahn_model.specs.Alarm.{Heard, HeardForm, any_of, parts_alarm}
 use Rattle.kahn_model.specs.Reads
-use Rattle.kahn_model.specs.Reads.{Shape, shapes_of, Call, calls_of, Needs, Formed, Reading, together, all_needs, every_needs, earlier, now_only, bound_keys, shapes_read}
+use Rattle.kahn_model.specs.Reads.{Shape, shapes_of, Call, calls_of, Needs, Formed, Reading, together, all_needs, every_needs, earlier, now_only, around_keys, bound_keys, shapes_read}
 use Rattle.kahn_model.proofs.Knowing.{both_known, either_known, know_known, know_all_known, some_known}
 use Rattle.kahn_model.proofs.Needed
 use Rattle.kahn_model.proofs.Needed.{Met, MetBy, met_by, met_left, met_right, by_left, by_right, by_earlier}
 use Rattle.kahn_model.proofs.Expressions
 use Rattle.kahn_model.proofs.Related
+use Rattle.kahn_model.proofs.Rising.{active_here, again_to, arms_around, around_sooner, last_bound_known}
 use Rattle.kahn_model.proofs.Related.{in_choices, related, twice}
 
 pub any_known : (os : List (Option Bool)) → All IsKnown os → IsKnown (any_of os)
@@ -272,3 +274,29 @@ module _ (cases : ℕ → Option ℕ) (defs : List Definition) (call : Meaning) 
 
     pub heard_known : (e : E) → HoldsH (fold-Expr Note HeardForm Heard hs he e) (Reads.reading d shapes e)
     heard_known = related hs he fr er HoldsHF HoldsH form_known expr_known
+
+module _ (cases : ℕ → Option ℕ) (defs : List Definition) (call : Meaning) (Ok : Call → Type 0) (d : Definition) (a : Around) (T : Table) (top : ℕ) (around : AroundTo top a)
+    (calls : (k i : ℕ) → i ≤ top → (c : Around) → Ok (k, shapes_of c.args) → AroundTo i c → IsKnown (call k c i))
+    (alarmed : Meaning) (alarms : (k i : ℕ) → i ≤ top → (c : Around) → Ok (k, shapes_of c.args) → AroundTo i c → IsKnown (alarmed k c i)) where
+  abbrev args : List Shape
+  args = shapes_of a.args
+
+  alarm_at_known : (p : Place) (e : E) (i : ℕ) → i ≤ top → MetBy Ok T i (Reads.needs_at d args p e) → IsKnown (Alarm.alarm_at cases defs call alarmed d a T p e i)
+  alarm_at_known p e i t m =
+      let act : Row Bool = Turn.active cases defs call d a T p in
+      let rst : Row Bool = Turn.again cases defs call d a T p in
+      let here : Needs = now_only (around_keys p) in
+      let more : Needs = (Reads.reading d args e).needs in
+      let own : Met Ok T i here = met_by Ok T i here (by_left Ok T i here more m) in
+      (heard_known cases defs call Ok d a T i (around_sooner i top t a around) (λ k j l c o ar. calls k j (omega (arith, l, t)) c o ar) alarmed (λ k j l c o ar. alarms k j (omega (arith, l, t)) c o ar) act rst
+          (λ j l. active_here cases defs call Ok d a T top around calls j (omega (arith, l, t)) p
+            (arms_around cases defs call Ok d a T top around calls j p (Needed.met_to Ok T i j here l own).is_now))
+          (again_to cases defs call Ok d a T top around calls i t p more (met_by Ok T i (Reads.needs_at d args p e) m))
+          (λ bound j l n. last_bound_known cases defs call Ok d a T top around calls bound j (omega (arith, l, t)) n) e).1 i (omega arith)
+        (by_right Ok T i here more m)
+
+  pub any_alarm_known : (all : List (E × Place)) (i : ℕ) → i ≤ top → All (λ (ep : E × Place). MetBy Ok T i (Reads.needs_at d args ep.1 ep.0)) all
+      → IsKnown (Alarm.any_alarm cases defs call alarmed d a T all i)
+  any_alarm_known [] i t q = some_known false
+  any_alarm_known (ep ∷ all) i t q = either_known (Alarm.alarm_at cases defs call alarmed d a T ep.1 ep.0 i) (Alarm.any_alarm cases defs call alarmed d a T all i)
+      (alarm_at_known ep.1 ep.0 i t q.0) (any_alarm_known all i t q.1)

@@ -11,7 +11,9 @@ use Rattle.kahn_model.specs.Search.{nth}
 use Rattle.kahn_model.specs.Turn.{Table, turn}
 use Rattle.kahn_model.specs.Table
 use Rattle.kahn_model.specs.Table.{Rows, body, cell_in, meaning, read, row_keys, same_key, table_of, written, written_row}
-use Rattle.kahn_model.proofs.Below.{below_refl, below_trans, none_below}
+use Rattle.kahn_model.specs.Alarm
+use Rattle.kahn_model.proofs.AlarmBelow.{body_alarm_below}
+use Rattle.kahn_model.proofs.Below.{below_refl, below_trans, know_below, none_below}
 use Rattle.kahn_model.proofs.Filling.{plus_none, plus_suc, times_plus, rest_sum}
 use Rattle.kahn_model.proofs.Monotone.{answer_below, if_rel, turn_below}
 use Rattle.kahn_model.proofs.Solutions.{meaning_monotone, read_below, rising}
@@ -67,3 +69,19 @@ module _ (cases : ℕ → Option ℕ) (defs : List Definition) (n n' : ℕ) (mor
   meaning_wider zero k a a' ab = λ i. none_below None
   meaning_wider (suc depth) k a a' ab =
       body_wider (meaning cases defs n depth) (meaning cases defs n' depth) (meaning_wider depth) (meaning_monotone cases defs n' depth) (nth defs k) a a' ab
+
+module _ (cases : ℕ → Option ℕ) (defs : List Definition) (n n' : ℕ) (more : n ≤ n') where
+  alarm_in_wider : (call call' : Meaning) → MeaningBelow call call' → MeaningBelow call' call' → (alarmed alarmed' : Meaning) → MeaningBelow alarmed alarmed'
+      → (d : Option Definition) (a a' : Around) → AroundBelow a a' → RowBelow (Alarm.alarm_in cases defs n call alarmed d a) (Alarm.alarm_in cases defs n' call' alarmed' d a')
+  alarm_in_wider call call' mono mono' alarmed alarmed' amono None a a' ab = λ i. none_below None
+  alarm_in_wider call call' mono mono' alarmed alarmed' amono (Some d) a a' ab = body_alarm_below cases defs call call' mono d a a' ab
+      (read (table_of cases defs n call d a)) (read (table_of cases defs n' call' d a')) (body_table cases defs n n' more call call' mono mono' d a a' ab) alarmed alarmed' amono
+
+  pub alarms_wider : (depth : ℕ) → MeaningBelow (Alarm.alarms cases defs n depth) (Alarm.alarms cases defs n' depth)
+  alarms_wider zero k a a' ab = λ i. none_below None
+  alarms_wider (suc depth) k a a' ab = λ i. know_below
+      (Alarm.alarm_in cases defs n (meaning cases defs n depth) (Alarm.alarms cases defs n depth) (nth defs k) a i)
+      (Alarm.alarm_in cases defs n' (meaning cases defs n' depth) (Alarm.alarms cases defs n' depth) (nth defs k) a' i) Alarm.yes_cell Alarm.yes_cell
+      (alarm_in_wider (meaning cases defs n depth) (meaning cases defs n' depth) (meaning_wider cases defs n n' more depth) (meaning_monotone cases defs n' depth)
+        (Alarm.alarms cases defs n depth) (Alarm.alarms cases defs n' depth) (alarms_wider depth) (nth defs k) a a' ab i)
+      (λ t. below_refl (Alarm.yes_cell t))

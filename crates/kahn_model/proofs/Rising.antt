@@ -70,18 +70,18 @@ module _ (cases : ℕ → Option ℕ) (defs : List Definition) (call : Meaning) 
   frames_known i (frame.Reset r ∷ p) q = (q.0, frames_known i p q.1)
   frames_known i (frame.Arm m j ∷ p) q = (q.0, frames_known i p q.1)
 
-  arms_around : (i : ℕ) (p : Place) → All (Kn' i) (around_keys p) → All (Kn' i) (arm_keys (arms p))
+  pub arms_around : (i : ℕ) (p : Place) → All (Kn' i) (around_keys p) → All (Kn' i) (arm_keys (arms p))
   arms_around i [] q = tt
   arms_around i (frame.Reset r ∷ p) q = arms_around i p q.1
   arms_around i (frame.Arm m j ∷ p) q = (q.0, arms_around i p q.1)
 
-  again_at : (i : ℕ) → i ≤ top → (p : Place) → All (Kn' i) (around_keys p) → IsKnown (Turn.again cases defs call d a T p i)
+  pub again_at : (i : ℕ) → i ≤ top → (p : Place) → All (Kn' i) (around_keys p) → IsKnown (Turn.again cases defs call d a T p i)
   again_at i t p q = Known.again_known cases defs call d a T a.again p i (around.again i t) (frames_known i p q)
 
-  active_here : (i : ℕ) → i ≤ top → (p : Place) → All (Kn' i) (arm_keys (arms p)) → IsKnown (Turn.active cases defs call d a T p i)
+  pub active_here : (i : ℕ) → i ≤ top → (p : Place) → All (Kn' i) (arm_keys (arms p)) → IsKnown (Turn.active cases defs call d a T p i)
   active_here i t p q = active_at cases defs call d a T top around shapes i t (arms p) q
 
-  again_to : (i : ℕ) → i ≤ top → (p : Place) (more : Needs) → Met' i (together (now_only (around_keys p)) more) → RowTo i (Turn.again cases defs call d a T p)
+  pub again_to : (i : ℕ) → i ≤ top → (p : Place) (more : Needs) → Met' i (together (now_only (around_keys p)) more) → RowTo i (Turn.again cases defs call d a T p)
   again_to i t p more m j l = again_at j (omega (arith, l, t)) p (met_to Ok T i j (now_only (around_keys p)) l (met_left Ok T i (now_only (around_keys p)) more m)).is_now
 
   -- ---- `last x`
@@ -116,7 +116,7 @@ module _ (cases : ℕ → Option ℕ) (defs : List Definition) (call : Meaning) 
       (λ j l. m.was_before.0 j l)
       (start_row_known x (start_of w d.places.starts) i (all_right (Kn' i) ar st m.is_now))
 
-  last_bound_known : (bound : Binder) (i : ℕ) → i ≤ top → Met' i (Reads.last_needs d shapes bound) → IsKnown (Turn.last_bound cases defs call d a T bound i)
+  pub last_bound_known : (bound : Binder) (i : ℕ) → i ≤ top → Met' i (Reads.last_needs d shapes bound) → IsKnown (Turn.last_bound cases defs call d a T bound i)
   last_bound_known (b.Var x) i t m = last_of_known x (nth d.places.vars x) i t m
   last_bound_known b.Nothing i t m = some_known Absent
   last_bound_known (b.Def k) i t m = some_known Absent
@@ -125,7 +125,7 @@ module _ (cases : ℕ → Option ℕ) (defs : List Definition) (call : Meaning) 
 
   -- ---- an expression at a place
 
-  cell_known : (p : Place) (e : E) (i : ℕ) → i ≤ top → Met' i (Reads.needs_at d shapes p e) → IsKnown (Turn.cell cases defs call d a T p e i)
+  pub cell_known : (p : Place) (e : E) (i : ℕ) → i ≤ top → Met' i (Reads.needs_at d shapes p e) → IsKnown (Turn.cell cases defs call d a T p e i)
   cell_known p e i t m =
       let act : Row Bool = Turn.active cases defs call d a T p in
       let rst : Row Bool = Turn.again cases defs call d a T p in

@@ -5,10 +5,11 @@ use Rattle.kahn_model.specs.declared.cell.Key.{Key}
 use Rattle.kahn_model.specs.declared.definition.Definition.{Definition}
 use Rattle.kahn_model.specs.Rows.{Row, IsKnown}
 use Rattle.kahn_model.specs.Functions.{Arg, stream, def, given, Around}
-use Rattle.kahn_model.specs.Search.{nth}
+use Rattle.ls_sig.specs.Places.{Place}
+use Rattle.kahn_model.specs.Search.{E, nth}
 use Rattle.kahn_model.specs.Table.{row_keys}
 use Rattle.kahn_model.specs.Fullness.{All, HasKey}
-use Rattle.kahn_model.specs.Reads.{Shape, Call, Needs, key_needs, result_needs}
+use Rattle.kahn_model.specs.Reads.{Shape, Call, Needs, key_needs, needs_at, result_needs}
 
 -- ---- what is known up to an instant
 
@@ -33,7 +34,12 @@ pub record AroundTo (i : ℕ) (a : Around) : Type 0 where
 
 -- ---- causal bodies
 
--- what is needed is in the table, and what is read at the same instant has a smaller number than `top`
+-- what is needed is in the table
+pub record InTable (d : Definition) (needs : Needs) : Type 0 where
+  pub now : All (λ l. HasKey l (row_keys d)) needs.now
+  pub before : All (λ l. HasKey l (row_keys d)) needs.before
+
+-- and what is read at the same instant has a number below `top`
 pub record Rises (d : Definition) (rank : Key → ℕ) (top : ℕ) (needs : Needs) : Type 0 where
   pub now : All (λ l. HasKey l (row_keys d) × (rank l < top)) needs.now
   pub before : All (λ l. HasKey l (row_keys d)) needs.before
@@ -42,12 +48,13 @@ pub record Rises (d : Definition) (rank : Key → ℕ) (top : ℕ) (needs : Need
 pub record Causal (d : Definition) (shapes : List Shape) : Type 0 where
   pub rank : Key → ℕ
   pub rows : (k : Key) → HasKey k (row_keys d) → Rises d rank (rank k) (key_needs d shapes k)
-  pub top : ℕ
-  pub result : Rises d rank top (result_needs d shapes)
+  pub exprs : All (λ (ep : E × Place). InTable d (needs_at d shapes ep.1 ep.0)) d.places.exprs
+  pub result : InTable d (result_needs d shapes)
 
 -- the calls in a body
 abbrev pub body_calls : Definition → List Shape → List Call
-body_calls d shapes = joined (map (λ k. (key_needs d shapes k).calls) (row_keys d)) ++ (result_needs d shapes).calls
+body_calls d shapes = joined (map (λ k. (key_needs d shapes k).calls) (row_keys d))
+    ++ (joined (map (λ (ep : E × Place). (needs_at d shapes ep.1 ep.0).calls) d.places.exprs) ++ (result_needs d shapes).calls)
 
 -- The bodies are causal that a call of the definition `k`, with arguments of these shapes, runs, and their calls nest less
 -- than `depth` deep.

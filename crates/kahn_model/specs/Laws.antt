@@ -7,6 +7,7 @@ use Rattle.kahn_model.specs.Rows.{Row, RowBelow, IsKnown}
 use Rattle.kahn_model.specs.Functions.{Arg, Around, Meaning}
 use Rattle.kahn_model.specs.Turn.{Table, turn}
 use Rattle.kahn_model.specs.Table.{Rows, read, row_keys, Solution, table, table_of, meaning, network}
+use Rattle.kahn_model.specs.Alarm.{network_alarm}
 use Rattle.kahn_model.specs.Order.{ArgsBelow, AroundBelow, TableBelow, Monotone}
 use Rattle.kahn_model.specs.Fullness.{All, Full, HasKey}
 use Rattle.kahn_model.specs.Reads.{shapes_of}
@@ -110,3 +111,15 @@ MoreLines = (cases : ℕ → Option ℕ) (defs : List Definition) (n n' k : ℕ)
 abbrev pub EarlierLinesAlone : Type 0
 EarlierLinesAlone = (cases : ℕ → Option ℕ) (defs : List Definition) (n n' k : ℕ) (args args' : List Arg) (i : ℕ) → i < n → n ≤ n' → ArgsBelow args args'
     → Sound defs 201 k (shapes_of args) → All (ArgTo i) args → network cases defs n' k args' i ≡ network cases defs n k args i
+
+-- ---- alarms
+
+-- whether an instant is alarmed is known as far as the input
+abbrev pub AlarmsKnown : Type 0
+AlarmsKnown = (cases : ℕ → Option ℕ) (defs : List Definition) (n k : ℕ) (args : List Arg) (i : ℕ) → i < n
+    → Sound defs 201 k (shapes_of args) → All (ArgTo i) args → IsKnown (network_alarm cases defs n k args i)
+
+-- and goes by the lines up to this instant alone
+abbrev pub EarlierAlarmsAlone : Type 0
+EarlierAlarmsAlone = (cases : ℕ → Option ℕ) (defs : List Definition) (n n' k : ℕ) (args args' : List Arg) (i : ℕ) → i < n → n ≤ n' → ArgsBelow args args'
+    → Sound defs 201 k (shapes_of args) → All (ArgTo i) args → network_alarm cases defs n' k args' i ≡ network_alarm cases defs n k args i

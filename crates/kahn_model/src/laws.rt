@@ -1,6 +1,6 @@
 //! Laws of the model: each function has an empty body and a law as its contract.
 
-ghost use Rattle.kahn_model.specs.Laws.{RowsReflexive, RowsTransitive, RowsAntisymmetric, TurnMonotone, MeaningMonotone, FullSolves, FullOnly, RisingKnown, RisingFull, MeaningKnown, BodyKnown, BodyFull, BodyOnly, NetworkKnown, MoreLines, EarlierLinesAlone};
+ghost use Rattle.kahn_model.specs.Laws.{RowsReflexive, RowsTransitive, RowsAntisymmetric, TurnMonotone, MeaningMonotone, FullSolves, FullOnly, RisingKnown, RisingFull, MeaningKnown, BodyKnown, BodyFull, BodyOnly, NetworkKnown, MoreLines, EarlierLinesAlone, AlarmsKnown, EarlierAlarmsAlone};
 
 /// What is known of rows is a partial order.
 pub fn rows_are_ordered()
@@ -36,11 +36,13 @@ pub fn causal_bodies_are_known()
     ensures full { BodyFull }
     ensures only { BodyOnly }
     ensures network { NetworkKnown }
+    ensures alarms { AlarmsKnown }
 {}
 
 /// More lines change nothing before: the result of a node at an instant goes by the lines up to
-/// this instant alone.
+/// this instant alone, and so does whether it is alarmed.
 pub fn later_lines_change_nothing()
     ensures more { MoreLines }
     ensures alone { EarlierLinesAlone }
+    ensures alarms { EarlierAlarmsAlone }
 {}

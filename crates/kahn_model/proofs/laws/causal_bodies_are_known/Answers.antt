@@ -1,7 +1,10 @@
 use Rattle.std.specs.Prelude.{true, false, Some}
+use Rattle.kahn_model.specs.Alarm.{alarms}
+use Rattle.kahn_model.specs.Cells.{is_yes}
+use Rattle.kahn_model.specs.Functions.{Around}
 use Rattle.kahn_model.specs.Table.{meaning}
-use Rattle.kahn_model.proofs.Depth.{SoundAt, calls_known, meaning_known, table_full, table_known, table_only}
-use Rattle.kahn_model.proofs.Knowing.{some_known}
+use Rattle.kahn_model.proofs.Depth.{SoundAt, alarms_known, calls_known, meaning_known, table_full, table_known, table_only}
+use Rattle.kahn_model.proofs.Knowing.{know_known, some_known}
 use Rattle.kahn_model.proofs.Solutions.{meaning_monotone}
 use Rattle.kahn_model.proofs.laws.causal_bodies_are_known.Goals as goal
 
@@ -27,3 +30,10 @@ pub returns-clause-network : goal.returns-clause-network
 returns-clause-network c cases defs n k args i b sound known = meaning_known cases defs n 201 k
     (record { active = λ i. Some true; again = λ i. Some false; clocks = λ w i. Some true; args = args }) i b sound
     (record { active = λ j l. some_known true; again = λ j l. some_known false; clocks = λ w j l. some_known true; args = known })
+
+pub returns-clause-alarms : goal.returns-clause-alarms
+returns-clause-alarms c cases defs n k args i b sound known =
+    let a : Around = record { active = λ i. Some true; again = λ i. Some false; clocks = λ w i. Some true; args = args } in
+    let x = alarms_known cases defs n 201 k a i b sound
+          (record { active = λ j l. some_known true; again = λ j l. some_known false; clocks = λ w j l. some_known true; args = known }) in
+    know_known (alarms cases defs n 201 k a i) (λ y. Some (is_yes y)) x (λ y e. some_known (is_yes y))
