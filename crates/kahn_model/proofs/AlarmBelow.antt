@@ -120,23 +120,23 @@ module _ (cases : ℕ → Option ℕ) (defs : List Definition) (call call' : Mea
         let ev : Row Bool = Turn.every_too cases defs call d a T rst s in
         let ev' : Row Bool = Turn.every_too cases defs call' d a' T' rst' t in
         if_rel Below (is_function n) (Some false) (Some false)
-          (Cells.say is_yes (Turn.apply cases defs alarmed d a T f (args_said xs) on act ev i))
-          (Cells.say is_yes (Turn.apply cases defs alarmed' d a' T' f' (args_said ys) on' act' ev' i))
-          (below_refl (Some false))
-          (say_below is_yes (Turn.apply cases defs alarmed d a T f (args_said xs) on act ev i) (Turn.apply cases defs alarmed' d a' T' f' (args_said ys) on' act' ev' i)
-            (Monotone.apply_below cases defs alarmed alarmed' amono d a a' ab T T' tb f f' (args_said xs) (args_said ys) on on' act act' ev ev' p (args_below xs ys q)
-              (Monotone.on_below cases defs call call' mono d a a' ab T T' tb n.ck) actb
-              (Monotone.every_below cases defs call call' mono d a a' ab T T' tb rst rst' s t rstb e) i))
+        (Cells.say is_yes (Turn.apply cases defs alarmed d a T f (args_said xs) on act ev i))
+        (Cells.say is_yes (Turn.apply cases defs alarmed' d a' T' f' (args_said ys) on' act' ev' i))
+        (below_refl (Some false))
+        (say_below is_yes (Turn.apply cases defs alarmed d a T f (args_said xs) on act ev i) (Turn.apply cases defs alarmed' d a' T' f' (args_said ys) on' act' ev' i)
+        (Monotone.apply_below cases defs alarmed alarmed' amono d a a' ab T T' tb f f' (args_said xs) (args_said ys) on on' act act' ev ev' p (args_below xs ys q)
+        (Monotone.on_below cases defs call call' mono d a a' ab T T' tb n.ck) actb
+        (Monotone.every_below cases defs call call' mono d a a' ab T T' tb rst rst' s t rstb e) i))
 
     head_call_below : (n : Note) (x : ℕ) (args : List TwoS) (s t : Option Said) → EveryBelow s t
         → RowBelow (Alarm.call_alarm cases defs call alarmed d a T act rst n (Turn.head_of cases defs call d a T n.bound n.ck x (clocks_said (ls args))) (ls args) s)
-          (Alarm.call_alarm cases defs call' alarmed' d a' T' act' rst' n (Turn.head_of cases defs call' d a' T' n.bound n.ck x (clocks_said (rs args))) (rs args) t)
+        (Alarm.call_alarm cases defs call' alarmed' d a' T' act' rst' n (Turn.head_of cases defs call' d a' T' n.bound n.ck x (clocks_said (rs args))) (rs args) t)
     head_call_below n x args s t e =
         let same : SaidsBelow (ls args) (rs args) = Monotone.saids_two cases defs call call' mono d a a' ab T T' tb args in
         call_below n (Turn.head_of cases defs call d a T n.bound n.ck x (clocks_said (ls args))) (Turn.head_of cases defs call' d a' T' n.bound n.ck x (clocks_said (rs args))) (ls args) (rs args) s t
-          (subst (λ cks. ArgBelow (Turn.head_of cases defs call d a T n.bound n.ck x (clocks_said (ls args))) (Turn.head_of cases defs call' d a' T' n.bound n.ck x cks)) (clocks_same (ls args) (rs args) same)
-            (Monotone.head_below cases defs call call' mono d a a' ab T T' tb n.bound n.ck x (clocks_said (ls args))))
-          same e
+        (subst (λ cks. ArgBelow (Turn.head_of cases defs call d a T n.bound n.ck x (clocks_said (ls args))) (Turn.head_of cases defs call' d a' T' n.bound n.ck x cks)) (clocks_same (ls args) (rs args) same)
+        (Monotone.head_below cases defs call call' mono d a a' ab T T' tb n.bound n.ck x (clocks_said (ls args))))
+        same e
 
     used_below : (n : Note) (bound : Binder) (x : ℕ) → RowBelow (Alarm.used_alarm cases defs call alarmed d a T act rst n bound x) (Alarm.used_alarm cases defs call' alarmed' d a' T' act' rst' n bound x)
     used_below n (b.Def k) x = call_below n (Turn.head_of cases defs call d a T (b.Def k) n.ck x []) (Turn.head_of cases defs call' d a' T' (b.Def k) n.ck x []) [] [] None None
@@ -207,14 +207,14 @@ module _ (cases : ℕ → Option ℕ) (defs : List Definition) (call call' : Mea
     form_below : (y : Form-F Note TwoHF TwoH) → RelH (hs (lefts y)) (hs' (rights y))
     form_below y n = (
       subst (λ z. ArgBelow (Turn.form_step cases defs call d a T act rst z n) (Turn.form_step cases defs call' d a' T' act' rst' (said (rights y)) n)) (left_is y)
-        (subst (λ z. ArgBelow (Turn.form_step cases defs call d a T act rst (Lefts (quiet y)) n) (Turn.form_step cases defs call' d a' T' act' rst' z n)) (right_is y)
+          (subst (λ z. ArgBelow (Turn.form_step cases defs call d a T act rst (Lefts (quiet y)) n) (Turn.form_step cases defs call' d a' T' act' rst' z n)) (right_is y)
           (Monotone.layer cases defs call call' mono d a a' ab T T' tb act act' rst rst' actb rstb (quiet y) n)),
       λ i. either_below (Alarm.own_alarm cases defs call alarmed d a T act rst (said (lefts y)) n i) (Alarm.own_alarm cases defs call' alarmed' d a' T' act' rst' (said (rights y)) n i)
-        (any_of (parts_alarm i (form_parts (lefts y)))) (any_of (parts_alarm i (form_parts (rights y))))
-        (subst (λ z. Below (Alarm.own_alarm cases defs call alarmed d a T act rst z n i) (Alarm.own_alarm cases defs call' alarmed' d a' T' act' rst' (said (rights y)) n i)) (left_is y)
+          (any_of (parts_alarm i (form_parts (lefts y)))) (any_of (parts_alarm i (form_parts (rights y))))
+          (subst (λ z. Below (Alarm.own_alarm cases defs call alarmed d a T act rst z n i) (Alarm.own_alarm cases defs call' alarmed' d a' T' act' rst' (said (rights y)) n i)) (left_is y)
           (subst (λ z. Below (Alarm.own_alarm cases defs call alarmed d a T act rst (Lefts (quiet y)) n i) (Alarm.own_alarm cases defs call' alarmed' d a' T' act' rst' z n i)) (right_is y)
-            (own_below (quiet y) n i)))
-        (any_below (parts_alarm i (form_parts (lefts y))) (parts_alarm i (form_parts (rights y))) (parts_below i y)),
+          (own_below (quiet y) n i)))
+          (any_below (parts_alarm i (form_parts (lefts y))) (parts_alarm i (form_parts (rights y))) (parts_below i y)),
     )
 
     expr_below : (n : Note) (p : TwoHF) → HeardBelow (he (record { note = n; form = p.0 })) (he' (record { note = n; form = p.1 }))

@@ -152,15 +152,15 @@ module _ (cases : ℕ → Option ℕ) (defs : List Definition) (call : Meaning) 
         let mine : Met Ok T i head = met_left Ok T i head more m in
         let rest : Met Ok T i more = met_right Ok T i head more m in
         by_flag (is_function n) (say is_yes (Turn.apply cases defs alarmed d a T f xs on act ev i)) (calls_of (Reads.head_shape d shapes bound x) (shapes_read (rs ps)))
-          (λ ok. say_known is_yes (Turn.apply cases defs alarmed d a T f xs on act ev i)
-            (Expressions.apply_known cases defs alarmed Ok d a T top around alarms i t f xs on act ev
-              (Expressions.head_to cases defs call Ok d a T top around calls act rst act_known rst_known n bound x ps i t mine)
-              (Expressions.args_to cases defs call Ok d a T top around calls act rst act_known rst_known ps i t (met_left Ok T i (all_needs (rs ps)) (every_needs (right_every s)) rest))
-              o (λ j l. act_known j (omega (arith, l, t)))
-              (Expressions.every_to cases defs call Ok d a T top around calls act rst act_known rst_known s i t (met_right Ok T i (all_needs (rs ps)) (every_needs (right_every s)) rest))
-              (subst (λ h. All Ok (calls_of h (shapes_of xs))) (sym (Expressions.head_shape_is cases defs call Ok d a T top around calls bound n.ck x (clocks_said (ls ps))))
-                (subst (λ ss. All Ok (calls_of (Reads.head_shape d shapes bound x) ss)) (sym (Expressions.shapes_same cases defs call Ok d a T top around calls act rst act_known rst_known ps)) ok))))
-          mine.ok
+        (λ ok. say_known is_yes (Turn.apply cases defs alarmed d a T f xs on act ev i)
+        (Expressions.apply_known cases defs alarmed Ok d a T top around alarms i t f xs on act ev
+        (Expressions.head_to cases defs call Ok d a T top around calls act rst act_known rst_known n bound x ps i t mine)
+        (Expressions.args_to cases defs call Ok d a T top around calls act rst act_known rst_known ps i t (met_left Ok T i (all_needs (rs ps)) (every_needs (right_every s)) rest))
+        o (λ j l. act_known j (omega (arith, l, t)))
+        (Expressions.every_to cases defs call Ok d a T top around calls act rst act_known rst_known s i t (met_right Ok T i (all_needs (rs ps)) (every_needs (right_every s)) rest))
+        (subst (λ h. All Ok (calls_of h (shapes_of xs))) (sym (Expressions.head_shape_is cases defs call Ok d a T top around calls bound n.ck x (clocks_said (ls ps))))
+        (subst (λ ss. All Ok (calls_of (Reads.head_shape d shapes bound x) ss)) (sym (Expressions.shapes_same cases defs call Ok d a T top around calls act rst act_known rst_known ps)) ok))))
+        mine.ok
 
     used_known : (n : Note) (bound : Binder) (x i : ℕ) → i ≤ top → OnTo n i → Met Ok T i (Reads.used d shapes n bound x).needs → IsKnown (Alarm.used_alarm cases defs call alarmed d a T act rst n bound x i)
     used_known n (b.Def k) x i t o m = call_known n (b.Def k) x [] None i t o m
@@ -172,7 +172,7 @@ module _ (cases : ℕ → Option ℕ) (defs : List Definition) (call : Meaning) 
     own_known : (y : Form-F Note TwoF TwoS) (n : Note) (i : ℕ) → i ≤ top → OnTo n i → Met Ok T i (fr (Rights y) n).needs → IsKnown (Alarm.own_alarm cases defs call alarmed d a T act rst (Lefts y) n i)
     own_known (Form-F.Op op args) n i t o m = both_known (Turn.on cases defs call d a T n.ck i) (know (know_all (cells_at i (ls args))) (λ cs. Some (alarm op (values_in cs)))) (o i (omega arith))
         (know_known (know_all (cells_at i (ls args))) (λ cs. Some (alarm op (values_in cs)))
-          (know_all_known (cells_at i (ls args)) (Expressions.all_cells cases defs call Ok d a T top around calls act rst act_known rst_known args i t m)) (λ cs z. some_known (alarm op (values_in cs))))
+        (know_all_known (cells_at i (ls args)) (Expressions.all_cells cases defs call Ok d a T top around calls act rst act_known rst_known args i t m)) (λ cs z. some_known (alarm op (values_in cs))))
     own_known (Form-F.Var x) n i t o m = used_known n n.bound x.0 i t o m
     own_known (Form-F.Call run head args None) n i t o m = call_known n n.bound head.0 args None i t o m
     own_known (Form-F.Call run head args (Some s)) n i t o m = call_known n n.bound head.0 args (Some s) i t o m
@@ -240,10 +240,10 @@ module _ (cases : ℕ → Option ℕ) (defs : List Definition) (call : Meaning) 
         (by_right Ok T i (now_only (bound_keys n.bound)) (all_needs (choice_parts (in_choices {X = TwoH} {Y = Reading} (λ p. p.1) choices))) m)
     parts_known (Form-F.Call run head args None) n i t m = more_known i t args None
         (by_right Ok T i (Expressions.head_needs cases defs call Ok d a T top around calls act rst act_known rst_known n n.bound head.0 (map {A = TwoH} {B = Reading} (λ p. p.1) args))
-          (together (all_needs (map {A = TwoH} {B = Reading} (λ p. p.1) args)) (every_needs None)) m)
+        (together (all_needs (map {A = TwoH} {B = Reading} (λ p. p.1) args)) (every_needs None)) m)
     parts_known (Form-F.Call run head args (Some s)) n i t m = more_known i t args (Some s)
         (by_right Ok T i (Expressions.head_needs cases defs call Ok d a T top around calls act rst act_known rst_known n n.bound head.0 (map {A = TwoH} {B = Reading} (λ p. p.1) args))
-          (together (all_needs (map {A = TwoH} {B = Reading} (λ p. p.1) args)) (every_needs (Some s.1))) m)
+        (together (all_needs (map {A = TwoH} {B = Reading} (λ p. p.1) args)) (every_needs (Some s.1))) m)
     parts_known (Form-F.Leaf l) n i t m = tt
     parts_known (Form-F.Case x) n i t m = tt
     parts_known (Form-F.Var x) n i t m = tt
@@ -253,22 +253,22 @@ module _ (cases : ℕ → Option ℕ) (defs : List Definition) (call : Meaning) 
     form_known : (y : Form-F Note TwoHF TwoH) → HoldsHF (hs (lefts y)) (fr (rights y))
     form_known y = (
       subst (λ z. HoldsF (fs z) (fr (rights y))) (left_is y)
-        (subst (λ z. HoldsF (fs (Lefts (quiet y))) (fr z)) (right_is y)
+          (subst (λ z. HoldsF (fs (Lefts (quiet y))) (fr z)) (right_is y)
           (Expressions.layer cases defs call Ok d a T top around calls act rst act_known rst_known last_known (quiet y))),
       λ n i t o m. either_known (Alarm.own_alarm cases defs call alarmed d a T act rst (said (lefts y)) n i) (any_of (parts_alarm i (form_parts (lefts y))))
-        (subst (λ z. IsKnown (Alarm.own_alarm cases defs call alarmed d a T act rst z n i)) (left_is y)
+          (subst (λ z. IsKnown (Alarm.own_alarm cases defs call alarmed d a T act rst z n i)) (left_is y)
           (own_known (quiet y) n i t o (subst (λ z. Met Ok T i (fr z n).needs) (sym (right_is y)) (met_by Ok T i (fr (rights y) n).needs m))))
-        (any_known (parts_alarm i (form_parts (lefts y))) (parts_known y n i t m)),
+          (any_known (parts_alarm i (form_parts (lefts y))) (parts_known y n i t m)),
     )
 
     expr_known : (n : Note) (p : TwoHF) → HoldsH (he (record { note = n; form = p.0 })) (er (record { note = n; form = p.1 }))
     expr_known n p = (
       Expressions.es_holds cases defs call Ok d a T top around calls act rst act_known rst_known last_known n (to_f p),
       λ i t m.
-        let own : Needs = now_only (Reads.clock_keys d shapes n.ck) in
-        p.2.1 n i t
+          let own : Needs = now_only (Reads.clock_keys d shapes n.ck) in
+          p.2.1 n i t
           (λ j l. Expressions.clock_known cases defs call Ok d a T top around calls n.ck j (omega (arith, l, t))
-            (Needed.met_to Ok T i j own l (met_by Ok T i own (by_left Ok T i own (p.1 n).needs m))).is_now)
+          (Needed.met_to Ok T i j own l (met_by Ok T i own (by_left Ok T i own (p.1 n).needs m))).is_now)
           (by_right Ok T i own (p.1 n).needs m),
     )
 
@@ -289,11 +289,11 @@ module _ (cases : ℕ → Option ℕ) (defs : List Definition) (call : Meaning) 
       let more : Needs = (Reads.reading d args e).needs in
       let own : Met Ok T i here = met_by Ok T i here (by_left Ok T i here more m) in
       (heard_known cases defs call Ok d a T i (around_sooner i top t a around) (λ k j l c o ar. calls k j (omega (arith, l, t)) c o ar) alarmed (λ k j l c o ar. alarms k j (omega (arith, l, t)) c o ar) act rst
-          (λ j l. active_here cases defs call Ok d a T top around calls j (omega (arith, l, t)) p
-            (arms_around cases defs call Ok d a T top around calls j p (Needed.met_to Ok T i j here l own).is_now))
-          (again_to cases defs call Ok d a T top around calls i t p more (met_by Ok T i (Reads.needs_at d args p e) m))
-          (λ bound j l n. last_bound_known cases defs call Ok d a T top around calls bound j (omega (arith, l, t)) n) e).1 i (omega arith)
-        (by_right Ok T i here more m)
+      (λ j l. active_here cases defs call Ok d a T top around calls j (omega (arith, l, t)) p
+      (arms_around cases defs call Ok d a T top around calls j p (Needed.met_to Ok T i j here l own).is_now))
+      (again_to cases defs call Ok d a T top around calls i t p more (met_by Ok T i (Reads.needs_at d args p e) m))
+      (λ bound j l n. last_bound_known cases defs call Ok d a T top around calls bound j (omega (arith, l, t)) n) e).1 i (omega arith)
+      (by_right Ok T i here more m)
 
   pub any_alarm_known : (all : List (E × Place)) (i : ℕ) → i ≤ top → All (λ (ep : E × Place). MetBy Ok T i (Reads.needs_at d args ep.1 ep.0)) all
       → IsKnown (Alarm.any_alarm cases defs call alarmed d a T all i)

@@ -83,7 +83,7 @@ module _ (cases : ℕ → Option ℕ) (defs : List Definition) (n : ℕ) where
     row_calls : (k : Key) → HasKey k (row_keys d) → All Ok (key_needs d shapes k).calls
     row_calls k h = of_row Ok (λ l. (key_needs d shapes l).calls) (row_keys d) k
         (all_under (All Ok) (λ l. (key_needs d shapes l).calls) (row_keys d)
-          (all_joined Ok keys_calls (all_left Ok (joined keys_calls) (joined exprs_calls ++ (result_needs d shapes).calls) ok))) h
+        (all_joined Ok keys_calls (all_left Ok (joined keys_calls) (joined exprs_calls ++ (result_needs d shapes).calls) ok))) h
 
     other_calls : All Ok (joined exprs_calls ++ (result_needs d shapes).calls)
     other_calls = all_right Ok (joined keys_calls) (joined exprs_calls ++ (result_needs d shapes).calls) ok
@@ -127,9 +127,10 @@ module _ (cases : ℕ → Option ℕ) (defs : List Definition) (n : ℕ) where
 
     in_table : (i : ℕ) → i < n → AroundTo i a → Calls Ok call i → (needs : Needs) → InTable d needs → All Ok needs.calls → MetBy Ok own_table i needs
     in_table i b around calls needs h cs = record {
-        by_now = all_map (λ l. HasKey l (row_keys d)) (Up Ok own_table (suc i)) (λ l g j p. table_known i b around calls l j g (omega (arith, p))) needs.now h.now;
-        by_before = all_map (λ l. HasKey l (row_keys d)) (Up Ok own_table (suc i)) (λ l g j p. table_known i b around calls l j g (omega (arith, p))) needs.before h.before;
-        ok = cs }
+      by_now = all_map (λ l. HasKey l (row_keys d)) (Up Ok own_table (suc i)) (λ l g j p. table_known i b around calls l j g (omega (arith, p))) needs.now h.now;
+      by_before = all_map (λ l. HasKey l (row_keys d)) (Up Ok own_table (suc i)) (λ l g j p. table_known i b around calls l j g (omega (arith, p))) needs.before h.before;
+      ok = cs;
+    }
 
     pub result_known : (i : ℕ) → i < n → AroundTo i a → Calls Ok call i → IsKnown (Table.answer_in cases defs n d a call (table_of cases defs n call d a) i)
     result_known i b around calls = answer_known cases defs call Ok d a own_table i around calls i (omega arith)
@@ -173,5 +174,5 @@ module _ (cases : ℕ → Option ℕ) (defs : List Definition) (n : ℕ) where
   alarms_known zero k a i b sound around = absurd sound
   alarms_known (suc depth) k a i b sound around =
       know_known (Alarm.alarm_in cases defs n (meaning cases defs n depth) (Alarm.alarms cases defs n depth) (nth defs k) a i) Alarm.yes_cell
-        (alarm_in_known depth (nth defs k) a i b sound around (λ l j p c o ar. alarms_known depth l c j (omega (arith, p, b)) o ar))
-        (λ t e. some_known (Present (v.Leaf (leaf.Bool t))))
+      (alarm_in_known depth (nth defs k) a i b sound around (λ l j p c o ar. alarms_known depth l c j (omega (arith, p, b)) o ar))
+      (λ t e. some_known (Present (v.Leaf (leaf.Bool t))))

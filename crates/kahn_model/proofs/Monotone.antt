@@ -483,9 +483,9 @@ module _ (cases : ℕ → Option ℕ) (defs : List Definition) (call call' : Mea
   otherwise_below x w =
       let t : Bool = Search.lacks d (sites_of x d.places.sites) in
       if_rel RowBelow w.signal (λ j. Some Silent) (λ j. Some Silent)
-        (if t then Turn.last cases defs call d a T x else nowhere) (if t then Turn.last cases defs call' d a' T' x else nowhere)
-        (λ j. below_refl (Some Silent))
-        (if_rel RowBelow t (Turn.last cases defs call d a T x) (Turn.last cases defs call' d a' T' x) nowhere nowhere (last_below x) (λ i. below_refl (nowhere i)))
+      (if t then Turn.last cases defs call d a T x else nowhere) (if t then Turn.last cases defs call' d a' T' x else nowhere)
+      (λ j. below_refl (Some Silent))
+      (if_rel RowBelow t (Turn.last cases defs call d a T x) (Turn.last cases defs call' d a' T' x) nowhere nowhere (last_below x) (λ i. below_refl (nowhere i)))
 
   variable_below : (x : ℕ) (w : Option Variable) → RowBelow (Turn.variable_cell cases defs call d a T x w) (Turn.variable_cell cases defs call' d a' T' x w)
   variable_below x None = λ i x e. e

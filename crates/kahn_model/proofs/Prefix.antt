@@ -83,5 +83,5 @@ module _ (cases : ℕ → Option ℕ) (defs : List Definition) (n n' : ℕ) (mor
       (Alarm.alarm_in cases defs n (meaning cases defs n depth) (Alarm.alarms cases defs n depth) (nth defs k) a i)
       (Alarm.alarm_in cases defs n' (meaning cases defs n' depth) (Alarm.alarms cases defs n' depth) (nth defs k) a' i) Alarm.yes_cell Alarm.yes_cell
       (alarm_in_wider (meaning cases defs n depth) (meaning cases defs n' depth) (meaning_wider cases defs n n' more depth) (meaning_monotone cases defs n' depth)
-        (Alarm.alarms cases defs n depth) (Alarm.alarms cases defs n' depth) (alarms_wider depth) (nth defs k) a a' ab i)
+      (Alarm.alarms cases defs n depth) (Alarm.alarms cases defs n' depth) (alarms_wider depth) (nth defs k) a a' ab i)
       (λ t. below_refl (Alarm.yes_cell t))

@@ -6,7 +6,7 @@ use Rattle.kahn_model.specs.declared.definition.Definition.{Definition}
 use Rattle.kahn_model.specs.Rows.{Row, RowBelow, IsKnown}
 use Rattle.kahn_model.specs.Functions.{Arg, Around, Meaning}
 use Rattle.kahn_model.specs.Turn.{Table, turn}
-use Rattle.kahn_model.specs.Table.{Rows, read, row_keys, Solution, table, table_of, meaning, network}
+use Rattle.kahn_model.specs.Table.{Rows, read, written, row_keys, Solution, table, table_of, meaning, network}
 use Rattle.kahn_model.specs.Alarm.{network_alarm}
 use Rattle.kahn_model.specs.Order.{ArgsBelow, AroundBelow, TableBelow, Monotone}
 use Rattle.kahn_model.specs.Fullness.{All, Full, HasKey}
@@ -123,3 +123,15 @@ AlarmsKnown = (cases : ℕ → Option ℕ) (defs : List Definition) (n k : ℕ) 
 abbrev pub EarlierAlarmsAlone : Type 0
 EarlierAlarmsAlone = (cases : ℕ → Option ℕ) (defs : List Definition) (n n' k : ℕ) (args args' : List Arg) (i : ℕ) → i < n → n ≤ n' → ArgsBelow args args'
     → Sound defs 201 k (shapes_of args) → All (ArgTo i) args → network_alarm cases defs n' k args' i ≡ network_alarm cases defs n k args i
+
+-- ---- solutions, cell by cell
+
+-- a turn over the rows of a table that gives each of their cells again leaves them as they are
+abbrev pub SolutionByCells : Type 0
+SolutionByCells = (ks : List Key) (n : ℕ) (turn_of : Table → Table) (U : Table)
+    → ((k : Key) (i : ℕ) → HasKey k ks → i < n → turn_of (read (written ks n U)) k i ≡ U k i) → Solution ks n turn_of (written ks n U)
+
+-- and a solution is such a table
+abbrev pub CellsOfSolution : Type 0
+CellsOfSolution = (ks : List Key) (n : ℕ) (turn_of : Table → Table) (S : Rows) → Solution ks n turn_of S
+    → (k : Key) (i : ℕ) → HasKey k ks → i < n → turn_of (read S) k i ≡ read S k i

@@ -1,6 +1,6 @@
 //! Laws of the model: each function has an empty body and a law as its contract.
 
-ghost use Rattle.kahn_model.specs.Laws.{RowsReflexive, RowsTransitive, RowsAntisymmetric, TurnMonotone, MeaningMonotone, FullSolves, FullOnly, RisingKnown, RisingFull, MeaningKnown, BodyKnown, BodyFull, BodyOnly, NetworkKnown, MoreLines, EarlierLinesAlone, AlarmsKnown, EarlierAlarmsAlone};
+ghost use Rattle.kahn_model.specs.Laws.{RowsReflexive, RowsTransitive, RowsAntisymmetric, TurnMonotone, MeaningMonotone, FullSolves, FullOnly, RisingKnown, RisingFull, MeaningKnown, BodyKnown, BodyFull, BodyOnly, NetworkKnown, MoreLines, EarlierLinesAlone, AlarmsKnown, EarlierAlarmsAlone, SolutionByCells, CellsOfSolution};
 
 /// What is known of rows is a partial order.
 pub fn rows_are_ordered()
@@ -45,4 +45,10 @@ pub fn later_lines_change_nothing()
     ensures more { MoreLines }
     ensures alone { EarlierLinesAlone }
     ensures alarms { EarlierAlarmsAlone }
+{}
+
+/// A solution is told by its cells.
+pub fn solutions_go_by_cells()
+    ensures by_cells { SolutionByCells }
+    ensures cells { CellsOfSolution }
 {}

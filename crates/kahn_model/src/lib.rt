@@ -7,3 +7,6 @@ pub mod laws;
 
 pub use cell::{Cell, Key, Reach, Value};
 pub use definition::Definition;
+
+#[cfg(test)]
+mod tests;

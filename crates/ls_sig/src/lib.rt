@@ -9,3 +9,6 @@ mod sigs;
 pub use binder::{Ann, Binder, Note, Resolved, TypeNote, Typed, Use};
 pub use places::{Frame, Named, Places, Right, Site, Start, Transition, Variable};
 pub use sigs::{InitSig, InitSigs, Item, Ranks, Sig};
+
+#[cfg(test)]
+mod tests;
