@@ -1,6 +1,6 @@
 -- Alarms are monotone, as cells are.
-use Rattle.std.specs.Prelude.{◌≡◌, refl, ℕ, Bool, true, false, List, [], ◌∷◌, ◌++◌, map, Option, Some, None, if◌then◌else◌}
-use Rattle.std.proofs.Common.{ap, sym, ◌∙◌, subst}
+use Rattle.std.specs.Prelude.{◌≡◌, ℕ, Bool, false, List, [], ◌∷◌, ◌++◌, map, Option, Some, None}
+use Rattle.std.proofs.Common.{sym, ◌∙◌, subst}
 use Rattle.ls_ast.specs.declared.tree.Case.{Case}
 use Rattle.ls_ast.specs.declared.tree.Expr.{Expr-F, fold-Expr}
 use Rattle.ls_ast.specs.declared.tree.Form.{map-Form}
@@ -9,7 +9,6 @@ use Rattle.ls_sig.specs.Places.{Place}
 use Rattle.ls_sig.specs.declared.binder.Binder.{Binder}
 use Rattle.ls_sig.specs.declared.binder.Binder.TheVariants as b
 use Rattle.ls_sig.specs.declared.binder.Note.{Note}
-use Rattle.kahn_model.specs.declared.cell.Cell.{Cell}
 use Rattle.kahn_model.specs.declared.definition.Definition.{Definition}
 use Rattle.kahn_model.specs.Rows.{Row, RowBelow, Below, know, know_all}
 use Rattle.kahn_model.specs.Values.{alarm}

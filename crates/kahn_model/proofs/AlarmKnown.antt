@@ -1,6 +1,6 @@
 -- Whether an instant is alarmed is known where the table is, and what is around the body.
-use Rattle.std.specs.Prelude.{◌≡◌, refl, ℕ, ◌≤◌, Bool, true, false, List, [], ◌∷◌, ◌++◌, map, Option, Some, None, if◌then◌else◌}
-use Rattle.std.proofs.Common.{ap, sym, ◌∙◌, subst, arith}
+use Rattle.std.specs.Prelude.{◌≡◌, ℕ, ◌≤◌, Bool, true, false, List, [], ◌∷◌, ◌++◌, map, Option, Some, None, if◌then◌else◌}
+use Rattle.std.proofs.Common.{sym, ◌∙◌, subst, arith}
 use Rattle.ls_ast.specs.declared.tree.Case.{Case}
 use Rattle.ls_ast.specs.declared.tree.Expr.{Expr-F, fold-Expr}
 use Rattle.ls_ast.specs.declared.tree.Form.{map-Form}
@@ -17,7 +17,7 @@ use Rattle.kahn_model.specs.Cells.{is_yes, say, values_in}
 use Rattle.kahn_model.specs.Clocks.{choice_parts, form_parts, is_function, option_part}
 use Rattle.kahn_model.specs.Functions.{Arg, Around, Meaning, Said, args_said, cells_at, clocks_said}
 use Rattle.kahn_model.specs.Fullness.{All}
-use Rattle.kahn_model.specs.Causality.{RowTo, ArgTo, AroundTo}
+use Rattle.kahn_model.specs.Causality.{RowTo, AroundTo}
 use Rattle.kahn_model.specs.Search.{E}
 use Rattle.kahn_model.specs.Turn
 use Rattle.kahn_model.specs.Turn.{Table}
