@@ -15,3 +15,4 @@ pub mod Depth
 pub mod Prefix
 pub mod AlarmBelow
 pub mod AlarmKnown
+pub mod AnyShapes

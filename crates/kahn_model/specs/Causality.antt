@@ -1,5 +1,5 @@
 -- Causality: a numbering of the rows that rises along all reads; and what is known up to an instant.
-use Rattle.std.specs.Prelude.{ℕ, zero, suc, ◌<◌, ◌≤◌, List, ◌++◌, map, Option, Some, None}
+use Rattle.std.specs.Prelude.{◌≡◌, ℕ, zero, suc, ◌<◌, ◌≤◌, List, ◌++◌, map, Option, Some, None}
 use Rattle.ls_sig.specs.Patterns.{joined}
 use Rattle.kahn_model.specs.declared.cell.Key.{Key}
 use Rattle.kahn_model.specs.declared.definition.Definition.{Definition}
@@ -66,3 +66,16 @@ module _ (defs : List Definition) where
   abbrev pub Sound : ℕ → ℕ → List Shape → Type 0
   Sound zero k shapes = ⊥
   Sound (suc depth) k shapes = SoundBody (Sound depth) (nth defs k) shapes
+
+  -- the calls of the definition `k`, with arguments of these shapes, nest less than `depth` deep
+  abbrev pub NestsBody : (ℕ → List Shape → Type 0) → Option Definition → List Shape → Type 0
+  NestsBody below None shapes = ⊥
+  NestsBody below (Some d) shapes = All (λ (c : Call). below c.0 c.1) (body_calls d shapes)
+
+  abbrev pub Nests : ℕ → ℕ → List Shape → Type 0
+  Nests zero k shapes = ⊥
+  Nests (suc depth) k shapes = NestsBody (Nests depth) (nth defs k) shapes
+
+  -- each definition is causal; no call counts here, so it is judged without the functions that a call passes
+  abbrev pub AllCausal : Type 0
+  AllCausal = (k : ℕ) (d : Definition) → nth defs k ≡ Some d → Causal d []

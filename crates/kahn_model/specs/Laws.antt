@@ -10,8 +10,8 @@ use Rattle.kahn_model.specs.Table.{Rows, read, written, row_keys, Solution, tabl
 use Rattle.kahn_model.specs.Alarm.{network_alarm}
 use Rattle.kahn_model.specs.Order.{ArgsBelow, AroundBelow, TableBelow, Monotone}
 use Rattle.kahn_model.specs.Fullness.{All, Full, HasKey}
-use Rattle.kahn_model.specs.Reads.{shapes_of}
-use Rattle.kahn_model.specs.Causality.{ArgTo, AroundTo, Sound, SoundBody}
+use Rattle.kahn_model.specs.Reads.{Shape, shapes_of}
+use Rattle.kahn_model.specs.Causality.{AllCausal, ArgTo, AroundTo, Causal, Nests, Sound, SoundBody}
 
 -- ---- the order of rows
 
@@ -135,3 +135,13 @@ SolutionByCells = (ks : List Key) (n : ℕ) (turn_of : Table → Table) (U : Tab
 abbrev pub CellsOfSolution : Type 0
 CellsOfSolution = (ks : List Key) (n : ℕ) (turn_of : Table → Table) (S : Rows) → Solution ks n turn_of S
     → (k : Key) (i : ℕ) → HasKey k ks → i < n → turn_of (read S) k i ≡ read S k i
+
+-- ---- causality and nesting
+
+-- whether a body is causal does not go by the functions that it is given
+abbrev pub CausalAlike : Type 0
+CausalAlike = (d : Definition) (shapes others : List Shape) → Causal d shapes → Causal d others
+
+-- where all definitions are causal, what remains is how deep the calls nest
+abbrev pub SoundByNesting : Type 0
+SoundByNesting = (defs : List Definition) → AllCausal defs → (depth k : ℕ) (shapes : List Shape) → Nests defs depth k shapes → Sound defs depth k shapes

@@ -1,6 +1,6 @@
 //! Laws of the model: each function has an empty body and a law as its contract.
 
-ghost use Rattle.kahn_model.specs.Laws.{RowsReflexive, RowsTransitive, RowsAntisymmetric, TurnMonotone, MeaningMonotone, FullSolves, FullOnly, RisingKnown, RisingFull, MeaningKnown, BodyKnown, BodyFull, BodyOnly, NetworkKnown, MoreLines, EarlierLinesAlone, AlarmsKnown, EarlierAlarmsAlone, SolutionByCells, CellsOfSolution};
+ghost use Rattle.kahn_model.specs.Laws.{RowsReflexive, RowsTransitive, RowsAntisymmetric, TurnMonotone, MeaningMonotone, FullSolves, FullOnly, RisingKnown, RisingFull, MeaningKnown, BodyKnown, BodyFull, BodyOnly, NetworkKnown, MoreLines, EarlierLinesAlone, AlarmsKnown, EarlierAlarmsAlone, SolutionByCells, CellsOfSolution, CausalAlike, SoundByNesting};
 
 /// What is known of rows is a partial order.
 pub fn rows_are_ordered()
@@ -51,4 +51,10 @@ pub fn later_lines_change_nothing()
 pub fn solutions_go_by_cells()
     ensures by_cells { SolutionByCells }
     ensures cells { CellsOfSolution }
+{}
+
+/// Definitions are judged causal one by one, and not call by call.
+pub fn causality_goes_by_definitions()
+    ensures alike { CausalAlike }
+    ensures nesting { SoundByNesting }
 {}

@@ -10,5 +10,6 @@ fn laws_are_stated(_rt: HostRuntime) -> Result<(), Fail> {
     laws::causal_bodies_are_known();
     laws::later_lines_change_nothing();
     laws::solutions_go_by_cells();
+    laws::causality_goes_by_definitions();
     Ok(())
 }
