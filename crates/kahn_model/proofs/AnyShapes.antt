@@ -1,8 +1,8 @@
 -- What rows read does not go by the shapes of the arguments; only the calls do.
 use Rattle.std.specs.Prelude.{◌≡◌, refl, ℕ, zero, suc, ◌+◌, ◌-◌, ◌<◌, Bool, true, false, List, [], ◌∷◌, ◌++◌, map, length, Option, Some, None, if◌then◌else◌}
-use Rattle.std.proofs.Common.{ap, ap₂, sym, ◌∙◌, subst}
+use Rattle.std.proofs.Common.{ap, ap₂, ◌∙◌, subst}
 use Rattle.ls_ast.specs.declared.tree.Case.{Case}
-use Rattle.ls_ast.specs.declared.tree.Expr.{Expr-F, fold-Expr}
+use Rattle.ls_ast.specs.declared.tree.Expr.{Expr-F}
 use Rattle.ls_ast.specs.declared.tree.Form.TheOpen.{Form-F}
 use Rattle.ls_sig.specs.Patterns.{joined}
 use Rattle.ls_sig.specs.Places.{Place, InnerArm, arms}
@@ -25,7 +25,7 @@ use Rattle.kahn_model.specs.declared.cell.Key.TheVariants as key
 use Rattle.kahn_model.specs.declared.definition.Definition.{Definition}
 use Rattle.kahn_model.specs.Clocks.{bare, choice_parts}
 use Rattle.kahn_model.specs.Fullness.{All, HasKey}
-use Rattle.kahn_model.specs.Causality.{AllCausal, Causal, InTable, Nests, NestsBody, Rises, Sound, SoundBody, body_calls}
+use Rattle.kahn_model.specs.Causality.{AllCausal, Causal, InTable, Nests, NestsBody, Sound, SoundBody, body_calls}
 use Rattle.kahn_model.specs.Search
 use Rattle.kahn_model.specs.Search.{E, nth, sites_of, start_of, mode_clock}
 use Rattle.kahn_model.specs.Table.{row_keys}
