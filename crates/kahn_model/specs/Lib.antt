@@ -1,2 +1,17 @@
 pub mod RunningSum
 pub mod RunText
+pub mod Rows
+pub mod Values
+pub mod Clocks
+pub mod Cells
+pub mod Functions
+pub mod Search
+pub mod Turn
+pub mod Table
+pub mod Alarm
+pub mod Program
+pub mod Order
+pub mod Fullness
+pub mod Laws
+pub mod Reads
+pub mod Causality

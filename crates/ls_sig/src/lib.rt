@@ -1,0 +1,14 @@
+//! The notes that the judgements leave on the trees, signatures, and what stands where in a
+//! definition.
+#![tactic(auto)]
+
+mod binder;
+mod places;
+mod sigs;
+
+pub use binder::{Ann, Binder, Note, Resolved, TypeNote, Typed, Use};
+pub use places::{Frame, Named, Places, Right, Site, Start, Transition, Variable};
+pub use sigs::{InitSig, InitSigs, Item, Ranks, Sig};
+
+#[cfg(test)]
+mod tests;
