@@ -7,6 +7,8 @@ mod piece;
 mod reading;
 mod scan;
 mod symbol;
+#[cfg(test)]
+mod tests;
 mod token;
 
 pub use fault::LexFault;
