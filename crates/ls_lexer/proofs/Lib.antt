@@ -1,3 +1,5 @@
+pub mod NameLemmas
+pub mod Rows
 pub mod Scans
 pub mod Tables
-pub mod Rows
+pub mod Unique

@@ -1,5 +1,5 @@
 -- Rows of pieces.
-use Rattle.std.proofs.Common.{◌≡◌, ℕ, zero, suc, refl, sym, subst}
+use Rattle.std.proofs.Common.{ℕ, zero, suc, refl, sym, subst}
 use Rattle.ls_lexer.specs.Lexing.{State, IsStep, Leads}
 
 -- a row goes on by one more piece

@@ -1,5 +1,5 @@
 -- Lengths of what is scanned, a character after the other.
-use Rattle.std.proofs.Common.{◌≡◌, ℕ, ◌+◌, ◌<◌, List, [], ◌∷◌, length, refl, sym, ◌∙◌, ap, arith, Option, None, Some, drop, get_or, add-one, drop-cons}
+use Rattle.std.proofs.Common.{◌≡◌, ℕ, ◌+◌, ◌<◌, List, ◌∷◌, length, refl, ap, arith, Option, None, Some, drop, get_or, add-one, drop-cons}
 use Rattle.ls_lexer.specs.Pieces.{behind}
 
 pub behind-behind : (n m : ℕ) (o : Option ℕ) → behind n (behind m o) ≡ behind (n + m) o

@@ -3,7 +3,6 @@ use Rattle.std.specs.Prelude.{ℕ, ◌==◌, ◌&&◌, if◌then◌else◌, List
 use Rattle.std.specs.Option.{option_map}
 use Rattle.std.specs.Str.{bytes_eq}
 use denote.Ref.{Bor}
-use Rattle.ls_ops.specs.declared.kinds.Op.{Op}
 use Rattle.ls_ops.specs.declared.kinds.Op.TheVariants.{Min, Max, Sign, Odd, IntOfChar, IsDigit, IsLetter}
 use Rattle.ls_lexer.specs.declared.token.Fixed.{Fixed}
 use Rattle.ls_lexer.specs.declared.token.Fixed.TheVariants.{KwAnd, KwAutomaton, KwClock, KwContinue, KwDo, KwDone, KwElse, KwEmit, KwEnd, KwEvery, KwFalse, KwFby, KwIf, KwIn, KwLast, KwLet, KwMatch, KwMerge, KwMod, KwNode, KwNot, KwOr, KwPre, KwPresent, KwRec, KwReset, KwRun, KwThen, KwTrue, KwType, KwUnless, KwUntil, KwWhen, KwWhenot, KwWhere, KwWith, KwXor, ParenLeft, ParenRight, Comma, Equal, Differ, Less, LessEq, Greater, GreaterEq, Plus, Minus, Star, Slash, Arrow, Ampersand, Bar, Question}

@@ -1,5 +1,5 @@
 -- The tokens of a file, or the first fault in it.
-use Rattle.std.specs.Prelude.{◌≡◌, ℕ, zero, suc, ◌+◌, ◌<◌, ◌⊎◌, Bool, false, if◌then◌else◌, List, [], ◌∷◌, ◌++◌, length, take, drop, slice_get, Option, Some, None, Ok, Err, codes, encode_utf8_all}
+use Rattle.std.specs.Prelude.{◌≡◌, ℕ, zero, suc, ◌+◌, ◌<◌, ◌≤◌, ◌⊎◌, Bool, false, if◌then◌else◌, List, [], ◌∷◌, ◌++◌, length, take, drop, slice_get, Option, Some, None, Ok, Err, codes, encode_utf8_all}
 use Rattle.std.specs.Str.{IsUtf8, IsValidUpTo, chars}
 use Rattle.ls_base.specs.declared.Line.{Line}
 use Rattle.ls_base.specs.declared.Name.{Name}
@@ -47,7 +47,7 @@ AddsPiece Comment line spelling old new = new ≡ old
 AddsPiece Word line spelling old new = AddsWord (keyword_of (encode_utf8_all spelling)) line spelling old new
 AddsPiece Number line spelling old new = IsIntText (encode_utf8_all spelling) × Adds line (Int (int_value (encode_utf8_all spelling))) old new
 AddsPiece Quoted line spelling old new = (c : ℕ) × IsToken 39 (c ∷ []) (encode_utf8_all spelling) × Adds line (Char c) old new
-AddsPiece LongQuoted line spelling old new = (t : List ℕ) × IsToken 34 t (encode_utf8_all spelling) × Adds line (Text t) old new
+AddsPiece LongQuoted line spelling old new = (t : List ℕ) × IsToken 34 t (encode_utf8_all spelling) × (length t ≤ 63) × Adds line (Text t) old new
 AddsPiece (Symbol symbol) line spelling old new = Adds line (Fixed symbol) old new
 
 -- a piece of this kind and spelling is none of a token: the integer is over 64 bits, there is not

@@ -14,7 +14,7 @@ use Rattle.ls_lexer.specs.declared.scan.Inside.TheVariants.{Plain, Backslash, Qu
 use Rattle.ls_lexer.specs.declared.piece.Kind.{Kind}
 use Rattle.ls_lexer.specs.declared.piece.Kind.TheVariants.{Blank, Comment, Word, Number, Char, Text, Symbol}
 use Rattle.ls_lexer.specs.declared.piece.Piece.{Piece}
-use Rattle.ls_lexer.specs.Characters.{is_blank, is_digit, begins_word, continues_word, is_in, front_len}
+use Rattle.ls_lexer.specs.Characters.{is_blank, is_digit, begins_word, continues_word, front_len}
 use Rattle.ls_lexer.specs.Keywords.{symbol_of_one, symbol_of_two}
 
 -- a length, with what stands before

@@ -1,9 +1,11 @@
 //! The tokens of a file.
 
-ghost use Rattle.std.specs.Prelude.{◌≡◌, ◌≢◌, ◌≤◌, ◌<◌, ◌+◌, ◌^◌, List, ℕ, [], length, take, IfOk, IfErr, OnOk, encode_utf8_all};
+ghost use Rattle.std.specs.Prelude.{◌≡◌, ◌≢◌, ◌≤◌, ◌<◌, ◌+◌, ◌^◌, List, ℕ, [], length, take, IfOk, IfErr, OnOk, MatchResult, encode_utf8_all};
 ghost use Rattle.std.specs.String.{string_bytes};
 ghost use Rattle.std.specs.Str.{IsUtf8, IsValidUpTo, chars};
 ghost use Rattle.ls_lexer.specs.Lexing as spec;
+ghost use Rattle.ls_lexer.specs.declared.token.Tokens.{Tokens};
+ghost use Rattle.ls_lexer.specs.declared.fault.LexFault.{LexFault};
 ghost use Rattle.ls_lexer.specs.Characters as characters;
 
 use crate::keyword::{Keyword, find_keyword};
@@ -17,6 +19,16 @@ use std::alloc::{AllocError, Global};
 /// The tokens of a file, or its first fault. A file of 4,294,967,294 bytes is the longest, so
 /// that each line has a number.
 pub fn lex(alloc: Global, bytes: &[u8]) -> Result<Tokens, LexFault>
+    requires short { length bytes.now < 4294967295 }
+    ensures tokens { IfOk result (λ tokens. spec.Lexes bytes.now tokens) }
+    ensures fault { IfErr result (λ fault. fault ≢ LexFault.NoMemory → spec.IsLexFault bytes.now fault) }
+    ensures no_other_tokens { (tokens : Tokens) → spec.Lexes bytes.now tokens → MatchResult result (λ found. found ≡ tokens) (λ fault. fault ≡ LexFault.NoMemory) }
+    ensures no_other_fault { (fault : LexFault) → spec.IsLexFault bytes.now fault → MatchResult result (λ tokens. ⊥) (λ found. found ≢ LexFault.NoMemory → found ≡ fault) }
+{
+    read_file(alloc, bytes)
+}
+
+fn read_file(alloc: Global, bytes: &[u8]) -> Result<Tokens, LexFault>
     requires short { length bytes.now < 4294967295 }
     ensures tokens { IfOk result (λ tokens. spec.Lexes bytes.now tokens) }
     ensures fault { IfErr result (λ fault. fault ≢ LexFault.NoMemory → spec.IsLexFault bytes.now fault) }
@@ -195,7 +207,10 @@ fn add_text(
 {
     let text = text_of(alloc, spelling)?;
     match read_text(text.as_bytes()) {
-        Some(characters) => add(line, Token::Text(characters), tokens),
+        Some(characters) => {
+            prove!(characters.bytes().len() <= 63);
+            add(line, Token::Text(characters), tokens)
+        }
         None => Err(LexFault::LongText(line)),
     }
 }

@@ -1,4 +1,4 @@
-use Rattle.std.proofs.Common.{ℕ, suc, ◌+◌, length, take, sym, ◌∙◌, ap, arith}
+use Rattle.std.proofs.Common.{suc, ◌+◌, ◌∙◌, ap, arith}
 use Rattle.ls_lexer.specs.Characters.{newlines}
 use Rattle.ls_lexer.specs.Lexing.{State, IsStep, start}
 use Rattle.ls_lexer.proofs.Rows.{Leads-more}
