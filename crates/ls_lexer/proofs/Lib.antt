@@ -1,4 +1,6 @@
+pub mod Told
 pub mod NameLemmas
+pub mod Quotes
 pub mod Rows
 pub mod Scans
 pub mod Tables

@@ -1,5 +1,5 @@
 -- A file has at most one row of tokens, or one first fault.
-use Rattle.std.proofs.Common.{◌≡◌, ◌≢◌, ℕ, zero, suc, ◌+◌, inl, inr, if◌then◌else◌, List, [], ◌∷◌, ◌++◌, length, take, drop, slice_get, Option, Some, None, Result, Ok, Err, IfOk, IfErr, MatchResult, encode_utf8_all, codes, refl, sym, ap, subst, ◌∙◌, arith}
+use Rattle.std.proofs.Common.{◌≡◌, ◌≢◌, ℕ, zero, suc, ◌+◌, ◌<◌, inl, inr, if◌then◌else◌, List, [], ◌∷◌, ◌++◌, length, take, drop, slice_get, Option, Some, None, Result, Ok, Err, IfOk, IfErr, MatchResult, encode_utf8_all, codes, refl, sym, ap, subst, ◌∙◌, arith}
 use Rattle.std.specs.Str.{IsUtf8, chars}
 use Rattle.std.proofs.lemmas.Str.{utf8_valid_len-IsValidUpTo, utf8_valid_len-IsUtf8}
 use Rattle.ls_base.specs.declared.Line.{Line}
@@ -139,9 +139,12 @@ no_token_adds : (kind : Kind) (line : Line) (spelling : List ℕ) (f : LexFault)
 no_token_adds Blank line spelling f old new unfit h = unfit
 no_token_adds Comment line spelling f old new unfit h = unfit
 no_token_adds Word line spelling f old new unfit h = unfit
-no_token_adds Number line spelling f old new unfit h = unfit.0 h.0
+no_token_adds Number line spelling f old new unfit h = let wide = unfit.0 in let few = h.0 in omega (arith, wide, few)
 no_token_adds Quoted line spelling f old new unfit h = unfit.0 h.0 h.1
-no_token_adds LongQuoted line spelling f old new unfit h = let many = unfit.0 h.0 h.1 in let few = h.2 in omega (arith, many, few)
+no_token_adds LongQuoted line spelling f old new unfit h =
+    let P : List ℕ → Type 0 = λ cs. 63 < length cs in
+    let many = subst P (token_unique 34 unfit.0.0 h.0 (encode_utf8_all spelling) unfit.0.1 h.1) unfit.0.2 in
+    let few = h.2 in omega (arith, many, few)
 no_token_adds (Symbol symbol) line spelling f old new unfit h = unfit
 
 no_token_unique : (kind : Kind) (line : Line) (spelling : List ℕ) (f g : LexFault) → IsNoToken kind line spelling f → IsNoToken kind line spelling g → f ≡ g

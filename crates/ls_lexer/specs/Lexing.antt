@@ -1,10 +1,11 @@
 -- The tokens of a file, or the first fault in it.
-use Rattle.std.specs.Prelude.{◌≡◌, ℕ, zero, suc, ◌+◌, ◌<◌, ◌≤◌, ◌⊎◌, Bool, false, if◌then◌else◌, List, [], ◌∷◌, ◌++◌, length, take, drop, slice_get, Option, Some, None, Ok, Err, codes, encode_utf8_all}
+use Rattle.std.specs.Prelude.{◌≡◌, ℕ, zero, suc, ◌+◌, ◌<◌, ◌≤◌, ◌⊎◌, Bool, false, if◌then◌else◌, List, [], ◌∷◌, ◌++◌, length, take, drop, slice_get, Option, Some, None, Ok, Err, codes, encode_utf8_all, pos}
 use Rattle.std.specs.Str.{IsUtf8, IsValidUpTo, chars}
 use Rattle.ls_base.specs.declared.Line.{Line}
 use Rattle.ls_base.specs.declared.Name.{Name}
 use Rattle.ls_base.specs.Names.{with_name}
-use Rattle.ls_value.specs.Reading.{IsIntText, int_value, IsToken}
+use Rattle.std.specs.Str.Parse.{digits_value}
+use Rattle.ls_value.specs.Reading.{IsToken}
 use Rattle.ls_lexer.specs.declared.token.Token.{Token}
 use Rattle.ls_lexer.specs.declared.token.Token.TheVariants.{Id, Cons, Int, Char, Text, Prefix, Fixed}
 use Rattle.ls_lexer.specs.declared.token.Tokens.{Tokens}
@@ -45,17 +46,21 @@ abbrev pub AddsPiece : Kind → Line → List ℕ → Tokens → Tokens → Type
 AddsPiece Blank line spelling old new = new ≡ old
 AddsPiece Comment line spelling old new = new ≡ old
 AddsPiece Word line spelling old new = AddsWord (keyword_of (encode_utf8_all spelling)) line spelling old new
-AddsPiece Number line spelling old new = IsIntText (encode_utf8_all spelling) × Adds line (Int (int_value (encode_utf8_all spelling))) old new
+AddsPiece Number line spelling old new = (digits_value 10 spelling ≤ 9223372036854775807) × Adds line (Int (pos (digits_value 10 spelling))) old new
 AddsPiece Quoted line spelling old new = (c : ℕ) × IsToken 39 (c ∷ []) (encode_utf8_all spelling) × Adds line (Char c) old new
 AddsPiece LongQuoted line spelling old new = (t : List ℕ) × IsToken 34 t (encode_utf8_all spelling) × (length t ≤ 63) × Adds line (Text t) old new
 AddsPiece (Symbol symbol) line spelling old new = Adds line (Fixed symbol) old new
 
--- a piece of this kind and spelling is none of a token: the integer is over 64 bits, there is not
+-- a string's spelling stands for some characters
+abbrev pub HasCharacters : List ℕ → Type 0
+HasCharacters spelling = (cs : List ℕ) × IsToken 34 cs (encode_utf8_all spelling)
+
+-- a piece of this kind and spelling is no token: the integer is over the greatest one, there is not
 -- one character between the quotes, or the string has more than 63
 abbrev pub IsNoToken : Kind → Line → List ℕ → LexFault → Type 0
-IsNoToken Number line spelling fault = ¬ IsIntText (encode_utf8_all spelling) × (fault ≡ WideInt line)
+IsNoToken Number line spelling fault = (9223372036854775807 < digits_value 10 spelling) × (fault ≡ WideInt line)
 IsNoToken Quoted line spelling fault = ((c : ℕ) → ¬ IsToken 39 (c ∷ []) (encode_utf8_all spelling)) × (fault ≡ Bad line)
-IsNoToken LongQuoted line spelling fault = ((cs : List ℕ) → IsToken 34 cs (encode_utf8_all spelling) → 63 < length cs) × (fault ≡ LongText line)
+IsNoToken LongQuoted line spelling fault = ((cs : List ℕ) × IsToken 34 cs (encode_utf8_all spelling) × (63 < length cs)) × (fault ≡ LongText line)
 IsNoToken Blank line spelling fault = ⊥
 IsNoToken Comment line spelling fault = ⊥
 IsNoToken Word line spelling fault = ⊥

@@ -3,6 +3,7 @@
 ghost use Rattle.std.specs.Prelude.{◌≡◌, ◌≢◌, ◌≤◌, ◌<◌, ◌+◌, ◌^◌, List, ℕ, [], length, take, IfOk, IfErr, OnOk, MatchResult, encode_utf8_all};
 ghost use Rattle.std.specs.String.{string_bytes};
 ghost use Rattle.std.specs.Str.{IsUtf8, IsValidUpTo, chars};
+ghost use Rattle.std.specs.Str.Parse.{IsNumeral};
 ghost use Rattle.ls_lexer.specs.Lexing as spec;
 ghost use Rattle.ls_lexer.specs.declared.token.Tokens.{Tokens};
 ghost use Rattle.ls_lexer.specs.declared.fault.LexFault.{LexFault};
@@ -109,6 +110,8 @@ fn add_piece(
     spelling: &[char],
     tokens: &mut Tokens,
 ) -> Result<(), LexFault>
+    requires digits { kind ≡ Kind.Number → IsNumeral 10 spelling.now }
+    requires characters { kind ≡ Kind.Text → spec.HasCharacters spelling.now }
     ensures piece { OnOk result (spec.AddsPiece kind line spelling.now tokens.old tokens.new) }
     ensures fault { IfErr result (λ fault. fault ≢ LexFault.NoMemory → spec.IsNoToken kind line spelling.now fault) }
 {
@@ -170,6 +173,7 @@ fn add_number(
     spelling: &[char],
     tokens: &mut Tokens,
 ) -> Result<(), LexFault>
+    requires digits { IsNumeral 10 spelling.now }
     ensures number { OnOk result (spec.AddsPiece Kind.Number line spelling.now tokens.old tokens.new) }
     ensures fault { IfErr result (λ fault. fault ≢ LexFault.NoMemory → spec.IsNoToken Kind.Number line spelling.now fault) }
 {
@@ -202,6 +206,7 @@ fn add_text(
     spelling: &[char],
     tokens: &mut Tokens,
 ) -> Result<(), LexFault>
+    requires characters { spec.HasCharacters spelling.now }
     ensures text { OnOk result (spec.AddsPiece Kind.Text line spelling.now tokens.old tokens.new) }
     ensures fault { IfErr result (λ fault. fault ≢ LexFault.NoMemory → spec.IsNoToken Kind.Text line spelling.now fault) }
 {
