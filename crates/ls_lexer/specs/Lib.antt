@@ -1,0 +1,4 @@
+pub mod Characters
+pub mod Keywords
+pub mod Pieces
+pub mod Lexing

@@ -1,0 +1,7 @@
+pub mod Told
+pub mod NameLemmas
+pub mod Quotes
+pub mod Rows
+pub mod Scans
+pub mod Tables
+pub mod Unique
