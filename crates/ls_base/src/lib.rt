@@ -6,6 +6,8 @@ mod copy;
 mod list;
 mod names;
 mod outside;
+mod steps;
+mod write;
 
 pub use boxed::Boxed;
 pub use copy::NoteCopy;
@@ -13,6 +15,8 @@ pub use list::List;
 pub use names::Names;
 pub use outside::{Failed, LoadFault, Sink, Source, TEXT_LIMIT, Texts};
 use std::alloc::AllocError;
+pub use steps::Steps;
+pub use write::write_all;
 
 /// The number of a line of a text, counted from 1.
 #[derive(Clone, Copy, Debug, PartialEq, Eq, PartialOrd, Ord)]
