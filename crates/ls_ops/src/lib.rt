@@ -1,31 +1,10 @@
-//! The operators on leaves.
+//! The operators on leaves, by one table: their symbols, what they take, and their values.
 #![tactic(auto)]
 
-/// The 24 operators.
-#[derive(Clone, Copy, Debug, PartialEq, Eq)]
-pub enum Op {
-    Add,
-    Sub,
-    Mul,
-    Div,
-    Rem,
-    Neg,
-    Less,
-    LessEq,
-    Greater,
-    GreaterEq,
-    Equal,
-    Differ,
-    Not,
-    And,
-    Or,
-    Xor,
-    Choose,
-    Min,
-    Max,
-    Sign,
-    Odd,
-    IntOfChar,
-    IsDigit,
-    IsLetter,
-}
+mod kinds;
+mod operators;
+mod symbols;
+
+pub use kinds::{Alarm, Op, OpSign};
+pub use operators::{find_op, prefix, sign_of, symbol};
+pub use symbols::OpTable;

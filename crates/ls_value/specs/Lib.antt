@@ -1,1 +1,3 @@
 pub mod Character
+pub mod Spelling
+pub mod TextBytes

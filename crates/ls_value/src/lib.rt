@@ -4,8 +4,10 @@
 
 mod glyph;
 mod leaf;
+mod leaf_buf;
 mod text;
 
 pub use glyph::Glyph;
 pub use leaf::{Leaf, Shape};
+pub use leaf_buf::{LeafBuf, write_leaf};
 pub use text::Text;
