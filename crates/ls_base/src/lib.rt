@@ -4,6 +4,7 @@
 mod boxed;
 mod copy;
 mod list;
+mod memory;
 mod names;
 mod outside;
 mod steps;
@@ -12,6 +13,7 @@ mod write;
 pub use boxed::Boxed;
 pub use copy::NoteCopy;
 pub use list::List;
+pub use memory::{MemSink, MemSource};
 pub use names::Names;
 pub use outside::{Failed, LoadFault, Sink, Source, TEXT_LIMIT, Texts};
 use std::alloc::AllocError;
