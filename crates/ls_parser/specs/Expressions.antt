@@ -17,7 +17,7 @@ use Rattle.ls_parser.specs.declared.level.Level.TheVariants.{Expr, Delay, Samp, 
 use Rattle.ls_parser.specs.declared.level.Infix.{Infix}
 use Rattle.ls_parser.specs.declared.level.Infix.TheVariants as between
 use Rattle.ls_parser.specs.Levels.{rank, left, right, infix_of, level_of}
-use Rattle.ls_parser.specs.Making.{Tree, node, constant, chosen, unary, binary, previous, applied, merged, operands}
+use Rattle.ls_parser.specs.Making.{Tree, node, constant, chosen, unary, binary, previous, applied, merged, operands, simple}
 use Rattle.ls_parser.specs.Reading.{◌>>=◌, Reader, uncons, starts, is_word, word, name, constructor, taller, behind, both, form_of, collect}
 
 -- whether a word begins an atom
@@ -80,16 +80,6 @@ condition ts = uncons ts >>= λ p. condition_at p.0 p.1
 -- whether an operator goes on from a phrase of the level `from` inside one of the level `least`
 abbrev pub goes_on : Level → Level → Infix → Bool
 goes_on least from o = not (nat_lt (rank (level_of o)) (rank least)) && not (nat_lt (rank from) (rank (left (level_of o))))
-
--- a literal, a constructor or a name
-abbrev pub simple : Token → Option Tree
-simple (Int i) = Some (constant (leaf.Int i))
-simple (Char c) = Some (constant (leaf.Char c))
-simple (Text t) = Some (constant (leaf.Text t))
-simple (Cons k) = Some (node (form.Case k))
-simple (Id x) = Some (node (form.Var x))
-simple (Prefix op) = None
-simple (Word w) = if is_word KwTrue (Word w) then Some (constant (leaf.Bool true)) else if is_word KwFalse (Word w) then Some (constant (leaf.Bool false)) else None
 
 -- a literal, a constructor or a name
 unfoldable pub single : Reader Tree

@@ -196,14 +196,14 @@ module _ (E : Phrase Tree) (P : Phrase Pat) (Q : Bool → Phrase (Equation Plain
   abbrev pub doing : Phrase (Handler Plain)
   doing = (maybe locals ⊗ (KwDo ▷ maybe (equations (Q true)))) ⇒ (λ p. handler_of p.0 p.1)
 
-mutual
+abbrev mutual
   -- Equations up to a height, in a `do` or elsewhere.
-  abbrev pub IsEquation : ℕ → Bool → Phrase (Equation Plain)
+  pub IsEquation : ℕ → Bool → Phrase (Equation Plain)
   IsEquation zero in_do x ts = ⊥
   IsEquation (suc height) in_do x ts = equation (IsExpr height Expr) (IsPat height) (IsEquation height) (IsHandler height) in_do x ts
 
   -- Handlers without their end, up to a height.
-  abbrev pub IsHandler : ℕ → Phrase (Handler Plain)
+  pub IsHandler : ℕ → Phrase (Handler Plain)
   IsHandler zero x ts = ⊥
   IsHandler (suc height) x ts = doing (IsExpr height Expr) (IsPat height) (IsEquation height) (IsHandler height) x ts
 
@@ -219,4 +219,4 @@ IsDef (suc height) line x ts = (
     (KwType ▷ (identifier ⊗ (Equal ▷ after Bar (separated Bar constructor)))) ⇒ (λ p. def.Cases line p.0 p.1)
     or (KwLet ▷ (identifier ⊗ (many (IsPat height) ⊗ (Equal ▷ IsBody height)))) ⇒ (λ p. definition line false p.0 p.1.0 p.1.1)
     or (KwLet ▷ (KwNode ▷ (identifier ⊗ (some (IsPat height) ⊗ (Equal ▷ IsBody height))))) ⇒ (λ p. definition line true p.0 p.1.0 p.1.1)
-  ) x ts
+    ) x ts

@@ -21,6 +21,9 @@ pub enum Stop {
     NoMemory,
 }
 
+/// What was read: a value, its height, and the place behind it.
+pub type Read<T> = Result<(T, u32, usize), Stop>;
+
 impl From<NoMemory> for Stop {
     ghost from_gives = { λ _ e. e ≡ Refused };
 

@@ -6,15 +6,12 @@ ghost use Rattle.ls_parser.specs.Reading.{rest, seen, Gives};
 ghost use Rattle.ls_parser.specs.Expressions as spec;
 ghost use Rattle.ls_parser.specs.Making as make;
 
-use crate::{Infix, Level, Parser, Stop, taller};
+use crate::{Infix, Level, Parser, Read, Stop, taller};
 use ls_ast::{Case, Expr, Form, Plain};
 use ls_base::{Boxed, List, Name};
 use ls_lexer::{Fixed, Token};
 use ls_ops::{Op, OpSign, sign_of};
 use ls_value::Leaf;
-
-/// What was read: a value, its height, and the place behind it.
-type Read<T> = Result<(T, u32, usize), Stop>;
 
 /// How many operands an operator has.
 pub fn operands(op: Op) -> usize
@@ -28,9 +25,19 @@ pub fn operands(op: Op) -> usize
     }
 }
 
+fn truth(word: Fixed) -> Option<bool>
+    ensures { result ≡ make.truth word }
+{
+    match word {
+        Fixed::KwTrue => Some(true),
+        Fixed::KwFalse => Some(false),
+        _ => None,
+    }
+}
+
 // A literal, a constructor or a name.
 fn simple(token: Token) -> Option<Form<Plain>>
-    ensures { option_map make.node result ≡ spec.simple token }
+    ensures { option_map make.node result ≡ make.simple token }
 {
     match token {
         Token::Int(value) => Some(Form::Leaf(Leaf::Int(value))),
@@ -38,16 +45,11 @@ fn simple(token: Token) -> Option<Form<Plain>>
         Token::Text(value) => Some(Form::Leaf(Leaf::Text(value))),
         Token::Cons(name) => Some(Form::Case(name)),
         Token::Id(name) => Some(Form::Var(name)),
+        Token::Fixed(word) => match truth(word) {
+            Some(value) => Some(Form::Leaf(Leaf::Bool(value))),
+            None => None,
+        },
         Token::Prefix(_) => None,
-        Token::Fixed(word) => {
-            if word == Fixed::KwTrue {
-                Some(Form::Leaf(Leaf::Bool(true)))
-            } else if word == Fixed::KwFalse {
-                Some(Form::Leaf(Leaf::Bool(false)))
-            } else {
-                None
-            }
-        }
     }
 }
 

@@ -2,8 +2,10 @@
 #![tactic(auto)]
 
 mod cursor;
+mod equations;
 mod expressions;
 mod level;
+mod patterns;
 
-pub use cursor::{Parser, Stop, taller};
+pub use cursor::{Parser, Read, Stop, taller};
 pub use level::{Infix, Level};
