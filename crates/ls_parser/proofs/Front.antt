@@ -31,7 +31,7 @@ pub none_some : {A : Type 0} (x : A) → None ≡ Some x → ⊥
 none_some x e = cc
 
 pub taller_is : (h k : ℕ) → taller h ≡ Some k → k ≡ h + 1
-taller_is h k e = elim branch_of (nat_lt h 200) (Some (h + 1)) None (Some k) e [ inl p ↦ sym (some_one (h + 1) k p.1) | inr p ↦ absurd (none_some k p.1) ]
+taller_is h k e = elim (branch_of (nat_lt h 200) (Some (h + 1)) None (Some k) e) [ inl p ↦ sym (some_one (h + 1) k p.1) | inr p ↦ absurd (none_some k p.1) ]
 
 pub cons_of : (ts : List Token) (p : Token × List Token) → uncons ts ≡ Some p → ts ≡ p.0 ∷ p.1
 cons_of [] p e = absurd (none_some p e)
@@ -50,7 +50,7 @@ pub word_of : (w : Fixed) (ts m : List Token) → word w ts ≡ Some m → ts �
 unfolding word
 word_of w ts m e =
     let p = some_of (uncons ts) (λ p. if is_word w p.0 then Some p.1 else None) m e in
-    elim branch_of (is_word w p.0.0) (Some p.0.1) None (Some m) p.2 [
+    elim (branch_of (is_word w p.0.0) (Some p.0.1) None (Some m) p.2) [
       inl q ↦ cons_of ts p.0 p.1 ∙ (λ i. word_one w p.0.0 q.0 i ∷ some_one p.0.1 m q.1 i)
     | inr q ↦ absurd (none_some m q.1) ]
 
@@ -87,6 +87,9 @@ constructor_at ts p e =
     let r = some_of (constructor_of q.0.0) (λ x. Some (x, q.0.1)) p q.2 in
     let same = some_one (r.0, q.0.1) p r.2 in
     (Cons p.0 ∷ [], cons_of ts q.0 q.1 ∙ (λ i. cons_token q.0.0 r.0 r.1 i ∷ q.0.1) ∙ (λ i. Cons (same i).0 ∷ (same i).1), refl)
+
+pub true_false : true ≡ false → ⊥
+true_false e = cc
 
 pub le_refl : (n : ℕ) → n ≤ n
 le_refl n = omega arith
@@ -149,48 +152,78 @@ Reads p ts z = (D : ℕ) → z.1 ≤ D → At (p D) z.0 ts z.2
 abbrev pub Stands : {A : Type 0} → (ℕ → Phrase A) → List Token → Got A → Type 0
 Stands p ts z = (1 ≤ z.1) × ((D : ℕ) → z.1 ≤ suc D → At (p D) z.0 ts z.2)
 
-abbrev pub Sound : {A : Type 0} → Reader A → (ℕ → Phrase A) → Type 0
-Sound {A} r p = (ts : List Token) (z : Got A) → r ts ≡ Some z → Reads p ts z
+-- what a reader reads is a phrase up to each height from its own on
+pub record Sound (A : Type 0) (r : Reader A) (p : ℕ → Phrase A) : Type 0 where
+  pub reads : (ts : List Token) (z : Got A) → r ts ≡ Some z → Reads p ts z
 
-abbrev pub Tall : {A : Type 0} → Reader A → (ℕ → Phrase A) → Type 0
-Tall {A} r p = (ts : List Token) (z : Got A) → r ts ≡ Some z → Stands p ts z
+-- what a reader reads is higher than its parts
+pub record Tall (A : Type 0) (r : Reader A) (p : ℕ → Phrase A) : Type 0 where
+  pub stands : (ts : List Token) (z : Got A) → r ts ≡ Some z → Stands p ts z
 
 pub give : {Z : Type 0} (P : Z → Type 0) (u v : Z) → Some u ≡ Some v → P u → P v
 give P u v e a = subst P (some_one u v e) a
 
+pub sound_behind : {A : Type 0} {r : Reader A} {p : ℕ → Phrase A} (w : Fixed) → Sound A r p → Sound A (behind w r) (λ D. w ▷ p D)
+sound_behind {A} {r} {p} w s = record { reads = λ ts z e D le.
+    let q = some_of (word w ts) r z e in
+    at_word (p D) w z.0 ts q.0 z.2 (word_of w ts q.0 q.1) (s.reads q.0 z q.2 D le) }
+
+pub sound_both : {A B : Type 0} {r : Reader A} {s : Reader B} {p : ℕ → Phrase A} {q : ℕ → Phrase B} → Sound A r p → Sound B s q → Sound (A × B) (both r s) (λ D. p D ⊗ q D)
+sound_both {A} {B} {r} {s} {p} {q} f g = record { reads = λ ts z e.
+    let a = some_of (r ts) (λ x. s x.2 >>= λ y. Some ((x.0, y.0), max x.1 y.1, y.2)) z e in
+    let b = some_of (s a.0.2) (λ y. Some ((a.0.0, y.0), max a.0.1 y.1, y.2)) z a.2 in
+    give (Reads (λ D. p D ⊗ q D) ts) ((a.0.0, b.0.0), max a.0.1 b.0.1, b.0.2) z b.2
+      (λ D le. at_both (p D) (q D) a.0.0 b.0.0 ts a.0.2 b.0.2 (f.reads ts a.0 a.1 D (max_left a.0.1 b.0.1 D le)) (g.reads a.0.2 b.0 b.1 D (max_right a.0.1 b.0.1 D le))) }
+
+pub tall_form : {A B : Type 0} {r : Reader A} {p : ℕ → Phrase A} (f : A → B) → Sound A r p → Tall B (form_of f r) (λ D. p D ⇒ f)
+tall_form {A} {B} {r} {p} f s = record { stands = λ ts z e.
+    let a = some_of (r ts) (λ x. taller x.1 >>= λ h. Some (f x.0, h, x.2)) z e in
+    let b = some_of (taller a.0.1) (λ h. Some (f a.0.0, h, a.0.2)) z a.2 in
+    give (Stands (λ D. p D ⇒ f) ts) (f a.0.0, b.0, a.0.2) z b.2
+      (one_more a.0.1 b.0 b.1, λ D le. at_made (p D) f a.0.0 (f a.0.0) ts a.0.2 refl (s.reads ts a.0 a.1 D (less_high a.0.1 b.0 D b.1 le))) }
+
+-- what is higher than its parts
+pub whole : {A : Type 0} (p : ℕ → Phrase A) (ts : List Token) (z : Got A) → Stands (λ D. p (suc D)) ts z → Reads p ts z
+whole p ts z s zero le = absurd (none_at z.1 s.0 le)
+  where
+    none_at : (h : ℕ) → 1 ≤ h → h ≤ 0 → ⊥
+    none_at h one le = omega arith
+whole p ts z s (suc D) le = s.1 D le
+
 module _ {A : Type 0} where
-  pub sound_behind : (w : Fixed) (r : Reader A) (p : ℕ → Phrase A) → Sound r p → Sound (behind w r) (λ D. w ▷ p D)
-  sound_behind w r p s ts z e D le =
-      let q = some_of (word w ts) r z e in
-      at_word (p D) w z.0 ts q.0 z.2 (word_of w ts q.0 q.1) (s q.0 z q.2 D le)
-
-  pub sound_both : {B : Type 0} (r : Reader A) (s : Reader B) (p : ℕ → Phrase A) (q : ℕ → Phrase B) → Sound r p → Sound s q → Sound (both r s) (λ D. p D ⊗ q D)
-  sound_both {B} r s p q f g ts z e =
-      let a = some_of (r ts) (λ x. s x.2 >>= λ y. Some ((x.0, y.0), max x.1 y.1, y.2)) z e in
-      let b = some_of (s a.0.2) (λ y. Some ((a.0.0, y.0), max a.0.1 y.1, y.2)) z a.2 in
-      give (Reads (λ D. p D ⊗ q D) ts) ((a.0.0, b.0.0), max a.0.1 b.0.1, b.0.2) z b.2
-        (λ D le. at_both (p D) (q D) a.0.0 b.0.0 ts a.0.2 b.0.2 (f ts a.0 a.1 D (max_left a.0.1 b.0.1 D le)) (g a.0.2 b.0 b.1 D (max_right a.0.1 b.0.1 D le)))
-
-  pub tall_form : {B : Type 0} (f : A → B) (r : Reader A) (p : ℕ → Phrase A) → Sound r p → Tall (form_of f r) (λ D. p D ⇒ f)
-  tall_form {B} f r p s ts z e =
-      let a = some_of (r ts) (λ x. taller x.1 >>= λ h. Some (f x.0, h, x.2)) z e in
-      let b = some_of (taller a.0.1) (λ h. Some (f a.0.0, h, a.0.2)) z a.2 in
-      give (Stands (λ D. p D ⇒ f) ts) (f a.0.0, b.0, a.0.2) z b.2
-        (one_more a.0.1 b.0 b.1, λ D le. at_made (p D) f a.0.0 (f a.0.0) ts a.0.2 refl (s ts a.0 a.1 D (less_high a.0.1 b.0 D b.1 le)))
-
-  Behind : (ℕ → Phrase A) → List A → ℕ → List Token → Got (List A) → Type 0
+  abbrev pub Behind : (ℕ → Phrase A) → List A → ℕ → List Token → Got (List A) → Type 0
   Behind p done g ts z = (g ≤ z.1) × ((ys : List A) × (z.0 ≡ done ++ ys) × ((D : ℕ) → z.1 ≤ D → At (many (p D)) ys ts z.2))
 
   -- a row of phrases is read behind what was read so far
-  pub sound_collect : (k : ℕ) (test : List Token → Bool) (r : Reader A) (p : ℕ → Phrase A) → Sound r p → (done : List A) (g : ℕ) (ts : List Token) (z : Got (List A))
+  pub sound_collect : (k : ℕ) (test : List Token → Bool) (r : Reader A) (p : ℕ → Phrase A) → Sound A r p → (done : List A) (g : ℕ) (ts : List Token) (z : Got (List A))
       → collect k test r done g ts ≡ Some z → Behind p done g ts z
   sound_collect zero test r p s done g ts z e = give (Behind p done g ts) (done, g, ts) z e (le_refl g, ([], sym (append_nil done), λ D le. at_none (p D) ts))
   sound_collect (suc k) test r p s done g ts z e =
       let stop : Behind p done g ts (done, g, ts) = (le_refl g, ([], sym (append_nil done), λ D le. at_none (p D) ts)) in
-      elim branch_of (test ts) (r ts >>= λ x. collect k test r (done ++ x.0 ∷ []) (max g x.1) x.2) (Some (done, g, ts)) (Some z) e [
+      elim (branch_of (test ts) (r ts >>= λ x. collect k test r (done ++ x.0 ∷ []) (max g x.1) x.2) (Some (done, g, ts)) (Some z) e) [
         inl q ↦
           let a = some_of (r ts) (λ x. collect k test r (done ++ x.0 ∷ []) (max g x.1) x.2) z q.1 in
           let b = sound_collect k test r p s (done ++ a.0.0 ∷ []) (max g a.0.1) a.0.2 z a.2 in
           (max_left g a.0.1 z.1 b.0, (a.0.0 ∷ b.1.0, b.1.1 ∙ append_assoc done (a.0.0 ∷ []) b.1.0,
-            λ D le. at_more (p D) a.0.0 b.1.0 ts a.0.2 z.2 (s ts a.0 a.1 D (le_trans a.0.1 z.1 D (max_right g a.0.1 z.1 b.0) le)) (b.1.2 D le)))
+            λ D le. at_more (p D) a.0.0 b.1.0 ts a.0.2 z.2 (s.reads ts a.0 a.1 D (le_trans a.0.1 z.1 D (max_right g a.0.1 z.1 b.0) le)) (b.1.2 D le)))
       | inr q ↦ give (Behind p done g ts) (done, g, ts) z q.1 stop ]
+
+  -- the same where one begins, and at least one turn is left
+  abbrev pub Begins : (ℕ → Phrase A) → List A → ℕ → List Token → Got (List A) → Type 0
+  Begins p done g ts z = (g ≤ z.1) × ((x : A) × (ys : List A) × (z.0 ≡ done ++ x ∷ ys) × ((D : ℕ) → z.1 ≤ D → At (many (p D)) (x ∷ ys) ts z.2))
+
+  begins_suc : (k : ℕ) (test : List Token → Bool) (r : Reader A) (p : ℕ → Phrase A) → Sound A r p → (done : List A) (g : ℕ) (ts : List Token) (z : Got (List A))
+      → test ts ≡ true → collect (suc k) test r done g ts ≡ Some z → Begins p done g ts z
+  begins_suc k test r p s done g ts z begun e =
+      elim (branch_of (test ts) (r ts >>= λ x. collect k test r (done ++ x.0 ∷ []) (max g x.1) x.2) (Some (done, g, ts)) (Some z) e) [
+        inl q ↦
+          let a = some_of (r ts) (λ x. collect k test r (done ++ x.0 ∷ []) (max g x.1) x.2) z q.1 in
+          let b = sound_collect k test r p s (done ++ a.0.0 ∷ []) (max g a.0.1) a.0.2 z a.2 in
+          (max_left g a.0.1 z.1 b.0, (a.0.0, b.1.0, b.1.1 ∙ append_assoc done (a.0.0 ∷ []) b.1.0,
+            λ D le. at_more (p D) a.0.0 b.1.0 ts a.0.2 z.2 (s.reads ts a.0 a.1 D (le_trans a.0.1 z.1 D (max_right g a.0.1 z.1 b.0) le)) (b.1.2 D le)))
+      | inr q ↦ absurd (true_false (sym begun ∙ q.0)) ]
+
+  pub sound_begins : (n : ℕ) → 1 ≤ n → (test : List Token → Bool) (r : Reader A) (p : ℕ → Phrase A) → Sound A r p → (done : List A) (g : ℕ) (ts : List Token) (z : Got (List A))
+      → test ts ≡ true → collect n test r done g ts ≡ Some z → Begins p done g ts z
+  sound_begins zero pos test r p s done g ts z begun e = absurd (omega arith)
+  sound_begins (suc k) pos test r p s done g ts z begun e = begins_suc k test r p s done g ts z begun e

@@ -1,2 +1,4 @@
+pub mod Files
 pub mod Front
 pub mod Loops
+pub mod SoundExpr

@@ -53,6 +53,6 @@ module _ (n : ℕ) (E : Reader Tree) (P : Reader Pat) (Q : Bool → Reader (Equa
   gather_turn limit turn strong weak s w h k top ts m g all below begun read is_s is_w highest before =
       (λ i. gather n E P Q H (limit - (turn + 1)) (is_s i) (is_w i) (highest i) m)
       ∙ sym (ap (λ j. gather n E P Q H j strong weak h ts) (left_turns limit turn below)
-             ∙ if_true (begins_guard ts) _ _ begun
-             ∙ ap (λ o. o >>= λ x. gather n E P Q H (limit - (turn + 1)) (with_strong x.0 strong) (with_weak x.0 weak) (max h x.1) x.2) read)
+      ∙ if_true (begins_guard ts) _ _ begun
+      ∙ ap (λ o. o >>= λ x. gather n E P Q H (limit - (turn + 1)) (with_strong x.0 strong) (with_weak x.0 weak) (max h x.1) x.2) read)
       ∙ before

@@ -131,7 +131,7 @@ module _ (n : ℕ) (E : Reader Tree) (P : Reader Pat) (Q : Bool → Reader (Equa
       if begins_guard ts then (transition ts >>= λ x. gather k (with_strong x.0 strong) (with_weak x.0 weak) (max h x.1) x.2) else Some ((strong, weak), h, ts)
 
   unfoldable pub guards : Reader (List (Guard Plain) × List (Guard Plain))
-  guards = gather n [] [] 0
+  guards ts = transition ts >>= λ g. gather n (with_strong g.0 []) (with_weak g.0 []) g.1 g.2
 
   -- what stands behind the equations of a state
   unfoldable pub exits : Reader (List (Guard Plain) × List (Guard Plain))

@@ -110,7 +110,7 @@ module _ (n : ℕ) (R : Level → Reader Tree) where
   branch ts = word ParenLeft ts >>= λ m. constructor m >>= λ p. word Arrow p.1 >>= λ m. R Expr m >>= λ x. word ParenRight x.2 >>= λ m. Some ((case.Of p.0, x.0), x.1, m)
 
   unfoldable pub branches : Reader (List (Case × Tree))
-  branches = collect n begins_branch branch [] 0
+  branches ts = branch ts >>= λ b. collect n begins_branch branch (b.0 ∷ []) b.1 b.2
 
   -- what stands behind `merge c`: branches, or two operands that do not begin as a branch
   unfoldable pub merge : Name → Reader Tree

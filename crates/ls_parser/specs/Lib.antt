@@ -1,3 +1,4 @@
+pub mod Definitions
 pub mod Equations
 pub mod Expressions
 pub mod Grammar

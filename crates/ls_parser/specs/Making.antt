@@ -157,8 +157,11 @@ or_none (Some eqs) = eqs
 abbrev pub handler_of : Option (List (Equation Plain)) → Option (List (Equation Plain)) → Handler Plain
 handler_of locals eqs = handler_with (or_none locals) (or_none eqs)
 
+abbrev pub body_with : Tree → List (Equation Plain) → BodyOf Plain
+body_with result eqs = record { result = result; eqs = eqs }
+
 abbrev pub body_of : Tree → Option (List (Equation Plain)) → BodyOf Plain
-body_of result eqs = record { result = result; eqs = or_none eqs }
+body_of result eqs = body_with result (or_none eqs)
 
 -- a definition with a mark and a note for each parameter
 abbrev pub definition : Line → Bool → Name → List Pat → BodyOf Plain → DefOf Plain

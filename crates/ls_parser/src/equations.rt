@@ -203,10 +203,12 @@ impl Parser<'_> {
     fn guards(&self, at: usize, parts: u32) -> Read<(List<Guard<Plain>>, List<Guard<Plain>>)>
         ensures { Gives (λ x. seen self.now.tokens.now x) result (spec.guards (length self.now.tokens.now) (expression (length self.now.tokens.now) parts Whole) (pattern (length self.now.tokens.now) parts) (spec.equation_at (length self.now.tokens.now) parts) (spec.doing_at (length self.now.tokens.now) parts) (rest self.now.tokens.now at)) }
     {
+        let ((first_strong, first), height, behind) = self.transition(at, parts)?;
         let mut strong = List::new(self.alloc);
         let mut weak = List::new(self.alloc);
-        let mut highest = 0;
-        let mut at = at;
+        put(&mut strong, &mut weak, first_strong, first)?;
+        let mut highest = height;
+        let mut at = behind;
         'turns: for turn in 0..self.tokens.len() {
             if !self.begins_guard(at) {
                 break 'turns;

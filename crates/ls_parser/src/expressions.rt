@@ -415,25 +415,27 @@ impl Parser<'_> {
         Ok((self.merged(name, yes, no)?, height, at))
     }
 
-    // Branches of a merge, as many as there are.
+    // The branches of a merge.
     #[cycle(expr)]
     #[tactic(auto, unfolding(crate::specs::Expressions::branches))]
     fn branches(&self, at: usize, parts: u32) -> Read<List<(Case, Expr<Plain>)>>
         ensures { Gives (λ x. seen self.now.tokens.now x) result (spec.branches (length self.now.tokens.now) (spec.expression (length self.now.tokens.now) parts) (rest self.now.tokens.now at)) }
     {
-        let mut branches = List::new(self.alloc);
-        let mut highest = 0;
-        let mut at = at;
+        let (first, height, next) = self.branch(at, parts)?;
+        let mut items = List::new(self.alloc);
+        items.push(first)?;
+        let mut highest = height;
+        let mut at = next;
         'turns: for turn in 0..self.tokens.len() {
             if !self.begins_branch(at) {
                 break 'turns;
             }
-            let (branch, height, next) = self.branch(at, parts)?;
-            branches.push(branch)?;
+            let (item, height, behind) = self.branch(at, parts)?;
+            items.push(item)?;
             highest = highest.max(height);
-            at = next;
+            at = behind;
         }
-        Ok((branches, highest, at))
+        Ok((items, highest, at))
     }
 
     // A branch of a merge, as `(A -> e)`.

@@ -2,10 +2,12 @@
 #![tactic(auto)]
 
 mod cursor;
+mod definitions;
 mod equations;
 mod expressions;
 mod level;
 mod patterns;
 
 pub use cursor::{Parser, Read, Stop, taller};
+pub use definitions::SyntaxFault;
 pub use level::{Infix, Level};

@@ -15,10 +15,10 @@ arguments-turns-preserved t c =
 
 pub branches-turns-preserved : goal.branches-turns-preserved
 branches-turns-preserved t c =
-    let top : c.max-highest.result ≡ max c.turns.highest c.in_ok-branch.height = search rules in
-    collect_turn spec.begins_branch (spec.branch (length c.args.self.now.tokens.now) (spec.expression (length c.args.self.now.tokens.now) c.args.parts)) (length c.args.self.now.tokens.now) c.turns.turn c.turns.branches c.push.new.self
-    c.turns.highest c.in_ok-branch.height c.max-highest.result (rest c.args.self.now.tokens.now c.turns.at) (rest c.args.self.now.tokens.now c.in_ok-branch.next) c.in_ok-branch.branch _
-    c.turns-test.true (sym c.begins_branch.ensures ∙ c.if-not-begins_branch.false) c.in_ok-branch.ensures c.in_ok-push.ensures.ok top c.turns.invariant
+    let top : c.max-highest.result ≡ max c.turns.highest c.in_ok-item.height = search rules in
+    collect_turn spec.begins_branch (spec.branch (length c.args.self.now.tokens.now) (spec.expression (length c.args.self.now.tokens.now) c.args.parts)) (length c.args.self.now.tokens.now) c.turns.turn c.turns.items c.push-in-turns.new.self
+    c.turns.highest c.in_ok-item.height c.max-highest.result (rest c.args.self.now.tokens.now c.turns.at) (rest c.args.self.now.tokens.now c.in_ok-item.behind) c.in_ok-item.item _
+    c.turns-test.true (sym c.begins_branch.ensures ∙ c.if-not-begins_branch.false) c.in_ok-item.ensures c.in_ok-push-2.ensures.ok top c.turns.invariant
 
 pub tuple-turns-preserved : goal.tuple-turns-preserved
 tuple-turns-preserved t c =

@@ -69,8 +69,8 @@ invariant-arguments-turns l =
 
 abbrev pub invariant-branches-turns : goal.invariant-branches-turns
 invariant-branches-turns l =
-    collect (length l.self.tokens.now - l.turn) spec.begins_branch (spec.branch (length l.self.tokens.now) (spec.expression (length l.self.tokens.now) l.parts)) l.branches l.highest (rest l.self.tokens.now l.at)
-    ≡ collect (length l.self.tokens.now) spec.begins_branch (spec.branch (length l.self.tokens.now) (spec.expression (length l.self.tokens.now) l.parts)) [] 0 (rest l.self.tokens.now l.initial.at)
+    collect (length l.self.tokens.now - l.turn) spec.begins_branch (spec.branch (length l.self.tokens.now) (spec.expression (length l.self.tokens.now) l.parts)) l.items l.highest (rest l.self.tokens.now l.at)
+    ≡ collect (length l.self.tokens.now) spec.begins_branch (spec.branch (length l.self.tokens.now) (spec.expression (length l.self.tokens.now) l.parts)) l.initial.items l.initial.highest (rest l.self.tokens.now l.initial.at)
 
 abbrev pub invariant-tuple-turns : goal.invariant-tuple-turns
 invariant-tuple-turns l =
