@@ -227,3 +227,12 @@ module _ {A : Type 0} where
       → test ts ≡ true → collect n test r done g ts ≡ Some z → Begins p done g ts z
   sound_begins zero pos test r p s done g ts z begun e = absurd (omega arith)
   sound_begins (suc k) pos test r p s done g ts z begun e = begins_suc k test r p s done g ts z begun e
+
+-- phrases between which a word stands
+pub sound_separated : {A : Type 0} (n : ℕ) (test : List Token → Bool) (w : Fixed) (r : Reader A) (p : ℕ → Phrase A) → Sound A r p → (ts : List Token) (z : Got (List A))
+    → (r ts >>= λ x. collect n test (behind w r) (x.0 ∷ []) x.1 x.2) ≡ Some z → Reads (λ D. separated w (p D)) ts z
+sound_separated n test w r p s ts z e D le =
+    let a = some_of (r ts) (λ x. collect n test (behind w r) (x.0 ∷ []) x.1 x.2) z e in
+    let b = sound_collect n test (behind w r) (λ D. w ▷ p D) (sound_behind w s) (a.0.0 ∷ []) a.0.1 a.0.2 z a.2 in
+    subst (λ xs. At (separated w (p D)) xs ts z.2) (sym b.1.1)
+      (at_both (p D) (many (w ▷ p D)) a.0.0 b.1.0 ts a.0.2 z.2 (s.reads ts a.0 a.1 D (le_trans a.0.1 z.1 D b.0 le)) (b.1.2 D le))

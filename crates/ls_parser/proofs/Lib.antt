@@ -1,4 +1,5 @@
 pub mod Files
 pub mod Front
 pub mod Loops
+pub mod SoundEqs
 pub mod SoundExpr

@@ -104,16 +104,24 @@ condition_read ts z e =
         let c = some_of (word ParenRight b.0.1) (λ m. Some ((b.0.0, case.Of k), m)) z b.2 in
         let first : At constructor k ts m = (Cons k ∷ [], is, refl) in
         give (λ (z : (Name × Case) × List Token). At g.condition z.0 ts z.1) ((b.0.0, case.Of k), c.0) z c.2
-        (at_right _ _ (b.0.0, case.Of k) ts c.0
-        (at_made (constructor ⊗ (ParenLeft ▷ (identifier ◁ ParenRight))) (λ p. (p.1, case.Of p.0)) (k, b.0.0) (b.0.0, case.Of k) ts c.0 refl
+        (let a = (at_made (constructor ⊗ (ParenLeft ▷ (identifier ◁ ParenRight))) (λ p. (p.1, case.Of p.0)) (k, b.0.0) (b.0.0, case.Of k) ts c.0 refl
         (at_both constructor (ParenLeft ▷ (identifier ◁ ParenRight)) k b.0.0 ts m c.0 first
         (at_word (identifier ◁ ParenRight) ParenLeft b.0.0 m a.0 c.0 (word_of ParenLeft m a.0 a.1)
-        (at_end identifier ParenRight b.0.0 a.0 b.0.1 c.0 (name_at a.0 b.0 b.1) (word_of ParenRight b.0.1 c.0 c.1))))))
+        (at_end identifier ParenRight b.0.0 a.0 b.0.1 c.0 (name_at a.0 b.0 b.1) (word_of ParenRight b.0.1 c.0 c.1))))) in (a.0, a.1, inr a.2))
     at_token (Int v) m z is e = absurd (none_some z e)
     at_token (Char v) m z is e = absurd (none_some z e)
     at_token (Text v) m z is e = absurd (none_some z e)
     at_token (Prefix v) m z is e = absurd (none_some z e)
     at_token (Word v) m z is e = absurd (none_some z e)
+
+none_less : (n : ℕ) → 0 ≤ n
+none_less n = omega arith
+
+ten_eleven : 10 ≤ 11
+ten_eleven = omega arith
+
+nine_ten : 9 ≤ 10
+nine_ten = omega arith
 
 and_first : (a b : Bool) → (a && b) ≡ true → a ≡ true
 and_first true b e = refl
@@ -192,7 +200,7 @@ module _ (n : ℕ) (pos : 1 ≤ n) (R : Level → Reader Tree) (sr : (l : Level)
   applied_call l low run f x xs e h k ts m made high loose = (
     one_more h k high,
     λ D le. at_rule D l App e ts m low
-        (at_left _ _ e ts m (at_made (g.call (IsExpr D)) (called None) (run, (f, x ∷ xs)) e ts m made (tight D run f x xs ts m (loose D (less_high h k D high le))))),
+        (let a = (at_made (g.call (IsExpr D)) (called None) (run, (f, x ∷ xs)) e ts m made (tight D run f x xs ts m (loose D (less_high h k D high le)))) in (a.0, a.1, inl a.2)),
   )
 
   -- what is made of a name and atoms
@@ -312,7 +320,7 @@ module _ (n : ℕ) (pos : 1 ≤ n) (R : Level → Reader Tree) (sr : (l : Level)
   no_branch k others m ts is plain = true_false (sym (ap r.begins_branch is) ∙ plain)
 
   at_bare : (D : ℕ) (x : Tree) (ts m : List Token) → r.begins_branch ts ≡ false → At (IsExpr D Atom) x ts m → At (g.bare (IsExpr D)) x ts m
-  at_bare D x ts m plain a = (a.0, a.1, a.2, λ looks. no_branch looks.0 looks.1 m ts (a.1 ∙ ap (λ u. u ++ m) looks.2) plain)
+  at_bare D x ts m plain a = (a.0, a.1, (a.2, λ looks. no_branch looks.0 looks.1 m ts (a.1 ∙ ap (λ u. u ++ m) looks.2) plain))
 
   same_length : (a b : ℕ) → nat_eq a b ≡ true → a ≡ b
   same_length a b e = eqb-true a b e
@@ -364,10 +372,9 @@ module _ (n : ℕ) (pos : 1 ≤ n) (R : Level → Reader Tree) (sr : (l : Level)
           let b = some_of (taller a.0.1) (λ h. Some (node (form.Merge p.0 a.0.0), h, a.0.2)) z a.2 in
           give (Stands (Next l) ts) (node (form.Merge p.0 a.0.0), b.0, a.0.2) z b.2
             (one_more a.0.1 b.0 b.1, λ D le. at_rule D l App (node (form.Merge p.0 a.0.0)) ts a.0.2 low
-              (at_right _ _ _ ts a.0.2 (at_right _ _ _ ts a.0.2 (at_left _ _ _ ts a.0.2
-                (at_made (KwMerge ▷ (identifier ⊗ some (g.branch (IsExpr D)))) (λ p. node (form.Merge p.0 p.1)) (p.0, a.0.0) (node (form.Merge p.0 a.0.0)) ts a.0.2 refl
+              (let a = (at_made (KwMerge ▷ (identifier ⊗ some (g.branch (IsExpr D)))) (λ p. node (form.Merge p.0 p.1)) (p.0, a.0.0) (node (form.Merge p.0 a.0.0)) ts a.0.2 refl
                   (at_word (identifier ⊗ some (g.branch (IsExpr D))) KwMerge (p.0, a.0.0) ts m a.0.2 first
-                    (at_both identifier (some (g.branch (IsExpr D))) p.0 a.0.0 m p.1 a.0.2 (name_at m p named) (branches_read p.1 a.0 a.1 D (less_high a.0.1 b.0 D b.1 le)))))))))
+                    (at_both identifier (some (g.branch (IsExpr D))) p.0 a.0.0 m p.1 a.0.2 (name_at m p named) (branches_read p.1 a.0 a.1 D (less_high a.0.1 b.0 D b.1 le))))) in (a.0, a.1, inr (inr (inl a.2)))))
       | inr q ↦
           let a = some_of (R Atom p.1) (λ a. if r.begins_branch a.2 then None else (R Atom a.2 >>= λ b. taller (max a.1 b.1) >>= λ h. Some (merged p.0 a.0 b.0, h, b.2))) z q.1 in
           elim (branch_of (r.begins_branch a.0.2) None (R Atom a.0.2 >>= λ b. taller (max a.0.1 b.1) >>= λ h. Some (merged p.0 a.0.0 b.0, h, b.2)) (Some z) a.2) [
@@ -379,13 +386,12 @@ module _ (n : ℕ) (pos : 1 ≤ n) (R : Level → Reader Tree) (sr : (l : Level)
                 (one_more (max a.0.1 b.0.1) c.0 c.1, λ D le.
                   let high = less_high (max a.0.1 b.0.1) c.0 D c.1 le in
                   at_rule D l App (merged p.0 a.0.0 b.0.0) ts b.0.2 low
-                    (at_right _ _ _ ts b.0.2 (at_right _ _ _ ts b.0.2 (at_right _ _ _ ts b.0.2
-                      (at_made (KwMerge ▷ (identifier ⊗ (g.bare (IsExpr D) ⊗ g.bare (IsExpr D)))) (λ p. merged p.0 p.1.0 p.1.1) (p.0, (a.0.0, b.0.0)) (merged p.0 a.0.0 b.0.0) ts b.0.2 refl
+                    (let a = (at_made (KwMerge ▷ (identifier ⊗ (g.bare (IsExpr D) ⊗ g.bare (IsExpr D)))) (λ p. merged p.0 p.1.0 p.1.1) (p.0, (a.0.0, b.0.0)) (merged p.0 a.0.0 b.0.0) ts b.0.2 refl
                         (at_word (identifier ⊗ (g.bare (IsExpr D) ⊗ g.bare (IsExpr D))) KwMerge (p.0, (a.0.0, b.0.0)) ts m b.0.2 first
                           (at_both identifier (g.bare (IsExpr D) ⊗ g.bare (IsExpr D)) p.0 (a.0.0, b.0.0) m p.1 b.0.2 (name_at m p named)
                             (at_both (g.bare (IsExpr D)) (g.bare (IsExpr D)) a.0.0 b.0.0 p.1 a.0.2 b.0.2
                               (at_bare D a.0.0 p.1 a.0.2 q.0 ((sr Atom).reads p.1 a.0 a.1 D (max_left a.0.1 b.0.1 D high)))
-                              (at_bare D b.0.0 a.0.2 b.0.2 s.0 ((sr Atom).reads a.0.2 b.0 b.1 D (max_right a.0.1 b.0.1 D high)))))))))))
+                              (at_bare D b.0.0 a.0.2 b.0.2 s.0 ((sr Atom).reads a.0.2 b.0 b.1 D (max_right a.0.1 b.0.1 D high))))))) in (a.0, a.1, inr (inr (inr a.2)))))
           ] ]
 
   -- what stands in parentheses after a first expression
@@ -404,18 +410,187 @@ module _ (n : ℕ) (pos : 1 ≤ n) (R : Level → Reader Tree) (sr : (l : Level)
               let high = less_high a.0.1 c.0 D c.1 le in
               let x = node (form.Tuple a.0.0) in
               at_rule D Atom Atom x ts b.0 (le_refl 11)
-                (at_right _ _ x ts b.0 (at_right _ _ x ts b.0 (at_right _ _ x ts b.0 (at_right _ _ x ts b.0 (at_right _ _ x ts b.0 (at_left _ _ x ts b.0
-                  (at_made (ParenLeft ▷ ((IsExpr D Expr ⊗ some (Comma ▷ IsExpr D Expr)) ◁ ParenRight)) (λ p. node (form.Tuple (p.0 ∷ p.1))) (e, ys) x ts b.0 (ap (λ xs. node (form.Tuple xs)) more.1.2)
+                (let a = (at_made (ParenLeft ▷ ((IsExpr D Expr ⊗ some (Comma ▷ IsExpr D Expr)) ◁ ParenRight)) (λ p. node (form.Tuple (p.0 ∷ p.1))) (e, ys) x ts b.0 (ap (λ xs. node (form.Tuple xs)) more.1.2)
                     (at_word ((IsExpr D Expr ⊗ some (Comma ▷ IsExpr D Expr)) ◁ ParenRight) ParenLeft (e, ys) ts m b.0 first
                       (at_end (IsExpr D Expr ⊗ some (Comma ▷ IsExpr D Expr)) ParenRight (e, ys) m a.0.2 b.0
                         (at_both (IsExpr D Expr) (some (Comma ▷ IsExpr D Expr)) e ys m k a.0.2 (inner D (le_trans h a.0.1 D more.0 high)) (more.1.3 D high))
-                        (word_of ParenRight a.0.2 b.0 b.1))))))))))
+                        (word_of ParenRight a.0.2 b.0 b.1)))) in (a.0, a.1, inr (inr (inr (inr (inr (inl a.2))))))))
       | inr q ↦
           let b = some_of (word ParenRight k) (λ m. taller h >>= λ k. Some (e, k, m)) z q.1 in
           let c = some_of (taller h) (λ k. Some (e, k, b.0)) z b.2 in
           give (Stands (Next Atom) ts) (e, c.0, b.0) z c.2
             (one_more h c.0 c.1, λ D le. at_rule D Atom Atom e ts b.0 (le_refl 11)
-              (at_right _ _ e ts b.0 (at_right _ _ e ts b.0 (at_right _ _ e ts b.0 (at_right _ _ e ts b.0 (at_left _ _ e ts b.0
-                (at_word (IsExpr D Expr ◁ ParenRight) ParenLeft e ts m b.0 first
-                  (at_end (IsExpr D Expr) ParenRight e m k b.0 (inner D (less_high h c.0 D c.1 le)) (word_of ParenRight k b.0 b.1)))))))))
+              (let a = (at_word (IsExpr D Expr ◁ ParenRight) ParenLeft e ts m b.0 first
+                  (at_end (IsExpr D Expr) ParenRight e m k b.0 (inner D (less_high h c.0 D c.1 le)) (word_of ParenRight k b.0 b.1))) in (a.0, a.1, inr (inr (inr (inr (inl a.2)))))))
       ]
+
+  every_stands : (ts m : List Token) → ts ≡ Word ParenLeft ∷ m → (run : Bool) (f : Name) (xs : List Tree) (h : ℕ) (k : List Token) → Loose m ((run, (f, xs)), h, k)
+      → (z : Got Tree) → r.every n R run f xs h k ≡ Some z → Stands (Next Atom) ts z
+  unfolding r.every
+  every_stands ts m first run f [] h k loose z read =
+      elim (branch_of (nat_eq (length {A = Tree} []) 0) None (word KwEvery k >>= λ m. R Expr m >>= λ c. word ParenRight c.2 >>= λ m. taller (max h c.1) >>= λ k. Some (node (form.Call run f [] (Some c.0)), k, m)) (Some z) read) [
+        inl q ↦ absurd (none_some z q.1)
+      | inr q ↦ absurd (true_false q.0) ]
+  every_stands ts m first run f (x ∷ xs) h k loose z read =
+      elim (branch_of (nat_eq (length (x ∷ xs)) 0) None (word KwEvery k >>= λ m. R Expr m >>= λ c. word ParenRight c.2 >>= λ m. taller (max h c.1) >>= λ k. Some (node (form.Call run f (x ∷ xs) (Some c.0)), k, m)) (Some z) read) [
+        inl q ↦ absurd (none_some z q.1)
+      | inr q ↦
+          let a = some_of (word KwEvery k) (λ m. R Expr m >>= λ c. word ParenRight c.2 >>= λ m. taller (max h c.1) >>= λ k. Some (node (form.Call run f (x ∷ xs) (Some c.0)), k, m)) z q.1 in
+          let b = some_of (R Expr a.0) (λ c. word ParenRight c.2 >>= λ m. taller (max h c.1) >>= λ k. Some (node (form.Call run f (x ∷ xs) (Some c.0)), k, m)) z a.2 in
+          let c = some_of (word ParenRight b.0.2) (λ m. taller (max h b.0.1) >>= λ k. Some (node (form.Call run f (x ∷ xs) (Some b.0.0)), k, m)) z b.2 in
+          let d = some_of (taller (max h b.0.1)) (λ k. Some (node (form.Call run f (x ∷ xs) (Some b.0.0)), k, c.0)) z c.2 in
+          let e = node (form.Call run f (x ∷ xs) (Some b.0.0)) in
+          give (Stands (Next Atom) ts) (e, d.0, c.0) z d.2
+            (one_more (max h b.0.1) d.0 d.1, λ D le.
+              let high = less_high (max h b.0.1) d.0 D d.1 le in
+              at_rule D Atom Atom e ts c.0 (le_refl 11)
+                (let a = (at_made (ParenLeft ▷ ((g.call (IsExpr D) ⊗ (KwEvery ▷ IsExpr D Expr)) ◁ ParenRight)) (λ p. called (Some p.1) p.0) ((run, (f, x ∷ xs)), b.0.0) e ts c.0 refl
+                    (at_word ((g.call (IsExpr D) ⊗ (KwEvery ▷ IsExpr D Expr)) ◁ ParenRight) ParenLeft ((run, (f, x ∷ xs)), b.0.0) ts m c.0 first
+                      (at_end (g.call (IsExpr D) ⊗ (KwEvery ▷ IsExpr D Expr)) ParenRight ((run, (f, x ∷ xs)), b.0.0) m b.0.2 c.0
+                        (at_both (g.call (IsExpr D)) (KwEvery ▷ IsExpr D Expr) (run, (f, x ∷ xs)) b.0.0 m k b.0.2
+                          (tight D run f x xs m k (loose D (max_left h b.0.1 D high)))
+                          (at_word (IsExpr D Expr) KwEvery b.0.0 k a.0 b.0.2 (word_of KwEvery k a.0 a.1) ((sr Expr).reads a.0 b.0 b.1 D (max_right h b.0.1 D high))))
+                        (word_of ParenRight b.0.2 c.0 c.1)))) in (a.0, a.1, inr (inr (inr (inr (inr (inr a.2))))))))
+      ]
+
+  group_stands : (ts m : List Token) → ts ≡ Word ParenLeft ∷ m → (z : Got Tree) → r.group n R m ≡ Some z → Stands (Next Atom) ts z
+  unfolding r.group
+  group_stands ts m first z read =
+      elim (branch_of (starts ParenRight m) (word ParenRight m >>= λ m. Some (constant leaf.Unit, 1, m))
+          (if r.begins_call m then
+            (r.call n R m >>= λ x. if starts KwEvery x.2 then r.every n R x.0.0 x.0.1.0 x.0.1.1 x.1 x.2 else (applied x.0.0 x.0.1.0 x.0.1.1 >>= λ e. taller x.1 >>= λ h. r.climb n R n Expr App e h x.2 >>= λ y. r.group_from n R y.0 y.1 y.2))
+            else (R Expr m >>= λ y. r.group_from n R y.0 y.1 y.2)) (Some z) read) [
+        inl q ↦
+          let a = some_of (word ParenRight m) (λ m. Some (constant leaf.Unit, 1, m)) z q.1 in
+          give (Stands (Next Atom) ts) (constant leaf.Unit, 1, a.0) z a.2
+            (le_refl 1, λ D le. at_rule D Atom Atom (constant leaf.Unit) ts a.0 (le_refl 11)
+              (Word ParenLeft ∷ Word ParenRight ∷ [], first ∙ ap (λ u. Word ParenLeft ∷ u) (word_of ParenRight m a.0 a.1), inr (inr (inr (inl (refl, refl))))))
+      | inr q ↦
+          elim (branch_of (r.begins_call m)
+            (r.call n R m >>= λ x. if starts KwEvery x.2 then r.every n R x.0.0 x.0.1.0 x.0.1.1 x.1 x.2 else (applied x.0.0 x.0.1.0 x.0.1.1 >>= λ e. taller x.1 >>= λ h. r.climb n R n Expr App e h x.2 >>= λ y. r.group_from n R y.0 y.1 y.2))
+            (R Expr m >>= λ y. r.group_from n R y.0 y.1 y.2) (Some z) q.1) [
+            inl s ↦
+              let a = some_of (r.call n R m) (λ x. if starts KwEvery x.2 then r.every n R x.0.0 x.0.1.0 x.0.1.1 x.1 x.2 else (applied x.0.0 x.0.1.0 x.0.1.1 >>= λ e. taller x.1 >>= λ h. r.climb n R n Expr App e h x.2 >>= λ y. r.group_from n R y.0 y.1 y.2)) z s.1 in
+              let loose = call_read m a.0 a.1 in
+              elim (branch_of (starts KwEvery a.0.2) (r.every n R a.0.0.0 a.0.0.1.0 a.0.0.1.1 a.0.1 a.0.2) (applied a.0.0.0 a.0.0.1.0 a.0.0.1.1 >>= λ e. taller a.0.1 >>= λ h. r.climb n R n Expr App e h a.0.2 >>= λ y. r.group_from n R y.0 y.1 y.2) (Some z) a.2) [
+                inl t ↦ every_stands ts m first a.0.0.0 a.0.0.1.0 a.0.0.1.1 a.0.1 a.0.2 loose z t.1
+              | inr t ↦
+                  let b = some_of (applied a.0.0.0 a.0.0.1.0 a.0.0.1.1) (λ e. taller a.0.1 >>= λ h. r.climb n R n Expr App e h a.0.2 >>= λ y. r.group_from n R y.0 y.1 y.2) z t.1 in
+                  let c = some_of (taller a.0.1) (λ h. r.climb n R n Expr App b.0 h a.0.2 >>= λ y. r.group_from n R y.0 y.1 y.2) z b.2 in
+                  let d = some_of (r.climb n R n Expr App b.0 c.0 a.0.2) (λ y. r.group_from n R y.0 y.1 y.2) z c.2 in
+                  let s1 = applied_stands App (le_refl 10) a.0.0.0 a.0.0.1.0 a.0.0.1.1 b.0 a.0.1 c.0 m a.0.2 b.1 c.1 loose in
+                  let s2 = climb_stands Expr n m App (none_less 10) b.0 c.0 a.0.2 s1.0 (whole (λ D. IsExpr D App) m (b.0, c.0, a.0.2) s1) d.0 d.1 in
+                  group_from_stands ts m first d.0.0 d.0.1 d.0.2 (whole (λ D. IsExpr D Expr) m d.0 s2) z d.2 ]
+          | inr s ↦
+              let a = some_of (R Expr m) (λ y. r.group_from n R y.0 y.1 y.2) z s.1 in
+              group_from_stands ts m first a.0.0 a.0.1 a.0.2 ((sr Expr).reads m a.0 a.1) z a.2 ] ]
+
+  single_stands : (ts : List Token) (z : Got Tree) → r.single ts ≡ Some z → Stands (Next Atom) ts z
+  unfolding r.single
+  single_stands ts z read =
+      let a = some_of (uncons ts) (λ p. simple p.0 >>= λ e. Some (e, 1, p.1)) z read in
+      let b = some_of (simple a.0.0) (λ e. Some (e, 1, a.0.1)) z a.2 in
+      give (Stands (Next Atom) ts) (b.0, 1, a.0.1) z b.2
+        (le_refl 1, λ D le. at_rule D Atom Atom b.0 ts a.0.1 (le_refl 11) (a.0.0 ∷ [], cons_of ts a.0 a.1, inl (a.0.0, refl, b.1)))
+
+  pub atom_stands : (ts : List Token) (z : Got Tree) → r.atom n R ts ≡ Some z → Stands (Next Atom) ts z
+  unfolding r.atom
+  atom_stands ts z read =
+      elim (branch_of (starts ParenLeft ts) (word ParenLeft ts >>= r.group n R)
+          (if starts KwLast ts then (word KwLast ts >>= λ m. name m >>= λ p. Some (node (form.Last p.0), 1, p.1))
+           else if starts Question ts then (word Question ts >>= λ m. name m >>= λ p. Some (node (form.Asked p.0), 1, p.1))
+           else r.single ts) (Some z) read) [
+        inl q ↦
+          let a = some_of (word ParenLeft ts) (r.group n R) z q.1 in
+          group_stands ts a.0 (word_of ParenLeft ts a.0 a.1) z a.2
+      | inr q ↦
+          elim (branch_of (starts KwLast ts) (word KwLast ts >>= λ m. name m >>= λ p. Some (node (form.Last p.0), 1, p.1))
+            (if starts Question ts then (word Question ts >>= λ m. name m >>= λ p. Some (node (form.Asked p.0), 1, p.1)) else r.single ts) (Some z) q.1) [
+            inl s ↦
+              let a = some_of (word KwLast ts) (λ m. name m >>= λ p. Some (node (form.Last p.0), 1, p.1)) z s.1 in
+              let b = some_of (name a.0) (λ p. Some (node (form.Last p.0), 1, p.1)) z a.2 in
+              let x = node (form.Last b.0.0) in
+              give (Stands (Next Atom) ts) (x, 1, b.0.1) z b.2
+                (le_refl 1, λ D le. at_rule D Atom Atom x ts b.0.1 (le_refl 11)
+                  (let a = (at_made (KwLast ▷ identifier) (λ x. node (form.Last x)) b.0.0 x ts b.0.1 refl
+                    (at_word identifier KwLast b.0.0 ts a.0 b.0.1 (word_of KwLast ts a.0 a.1) (name_at a.0 b.0 b.1))) in (a.0, a.1, inr (inl a.2))))
+          | inr s ↦
+              elim (branch_of (starts Question ts) (word Question ts >>= λ m. name m >>= λ p. Some (node (form.Asked p.0), 1, p.1)) (r.single ts) (Some z) s.1) [
+                inl t ↦
+                  let a = some_of (word Question ts) (λ m. name m >>= λ p. Some (node (form.Asked p.0), 1, p.1)) z t.1 in
+                  let b = some_of (name a.0) (λ p. Some (node (form.Asked p.0), 1, p.1)) z a.2 in
+                  let x = node (form.Asked b.0.0) in
+                  give (Stands (Next Atom) ts) (x, 1, b.0.1) z b.2
+                    (le_refl 1, λ D le. at_rule D Atom Atom x ts b.0.1 (le_refl 11)
+                      (let a = (at_made (Question ▷ identifier) (λ x. node (form.Asked x)) b.0.0 x ts b.0.1 refl
+                        (at_word identifier Question b.0.0 ts a.0 b.0.1 (word_of Question ts a.0 a.1) (name_at a.0 b.0 b.1))) in (a.0, a.1, inr (inr (inl a.2)))))
+              | inr t ↦ single_stands ts z t.1 ] ] ]
+
+  looser : (l k : Level) → rank l ≤ rank k → (ts : List Token) (z : Got Tree) → Stands (Next k) ts z → Stands (Next l) ts z
+  looser l k low ts z s = (s.0, λ D le. loosen (suc D) l k z.0 ts z.2 low (s.1 D le))
+
+  application_at_stands : (t : Token) (m ts : List Token) → ts ≡ t ∷ m → (z : Got Tree) → r.application_at n R t m ts ≡ Some z → Stands (Next App) ts z
+  application_at_stands (Prefix o) m ts is z read = prefixed_stands App (le_refl 10) o ts m is z read
+  application_at_stands (Id x) m ts is z read = named_stands App (le_refl 10) ts z read
+  application_at_stands (Word w) m ts is z read =
+      elim (branch_of (is_word KwRun (Word w)) (r.named n R ts) (if is_word KwMerge (Word w) then (name m >>= λ p. r.merge n R p.0 p.1) else r.atom n R ts) (Some z) read) [
+        inl q ↦ named_stands App (le_refl 10) ts z q.1
+      | inr q ↦
+          elim (branch_of (is_word KwMerge (Word w)) (name m >>= λ p. r.merge n R p.0 p.1) (r.atom n R ts) (Some z) q.1) [
+            inl s ↦
+              let a = some_of (name m) (λ p. r.merge n R p.0 p.1) z s.1 in
+              merge_stands App (le_refl 10) ts m (is ∙ ap (λ u. u ∷ m) (word_one KwMerge (Word w) s.0)) a.0 a.1 z a.2
+          | inr s ↦ looser App Atom (ten_eleven) ts z (atom_stands ts z s.1) ] ]
+  application_at_stands (Cons x) m ts is z read = looser App Atom (ten_eleven) ts z (atom_stands ts z read)
+  application_at_stands (Int x) m ts is z read = looser App Atom (ten_eleven) ts z (atom_stands ts z read)
+  application_at_stands (Char x) m ts is z read = looser App Atom (ten_eleven) ts z (atom_stands ts z read)
+  application_at_stands (Text x) m ts is z read = looser App Atom (ten_eleven) ts z (atom_stands ts z read)
+
+  pub application_stands : (ts : List Token) (z : Got Tree) → r.application n R ts ≡ Some z → Stands (Next App) ts z
+  unfolding r.application
+  application_stands ts z read =
+      let a = some_of (uncons ts) (λ p. r.application_at n R p.0 p.1 ts) z read in
+      application_at_stands a.0.0 a.0.1 ts (cons_of ts a.0 a.1) z a.2
+
+  prefix_stands : (w : Fixed) (f : Tree → Tree) → ((D : ℕ) (x : Tree) (ts m : List Token) → At ((w ▷ IsExpr D Unary) ⇒ f) x ts m → At (g.rule (IsExpr D) Unary) x ts m)
+      → (ts : List Token) (z : Got Tree) → form_of f (behind w (R Unary)) ts ≡ Some z → Stands (Next Unary) ts z
+  prefix_stands w f into ts z read =
+      let s = (tall_form f (sound_behind w (sr Unary))).stands ts z read in
+      (s.0, λ D le. at_rule D Unary Unary z.0 ts z.2 (le_refl 9) (into D z.0 ts z.2 (s.1 D le)))
+
+  pub operand_stands : (ts : List Token) (z : Got Tree) → r.operand n R ts ≡ Some z → Stands (Next Unary) ts z
+  unfolding r.operand
+  operand_stands ts z read =
+      elim (branch_of (starts Minus ts) (form_of (unary op.Neg) (behind Minus (R Unary)) ts)
+          (if starts KwNot ts then form_of (unary op.Not) (behind KwNot (R Unary)) ts else if starts KwPre ts then form_of previous (behind KwPre (R Unary)) ts else r.application n R ts) (Some z) read) [
+        inl q ↦ prefix_stands Minus (unary op.Neg) (λ D x ts m a. (a.0, a.1, inl a.2)) ts z q.1
+      | inr q ↦
+          elim (branch_of (starts KwNot ts) (form_of (unary op.Not) (behind KwNot (R Unary)) ts) (if starts KwPre ts then form_of previous (behind KwPre (R Unary)) ts else r.application n R ts) (Some z) q.1) [
+            inl s ↦ prefix_stands KwNot (unary op.Not) (λ D x ts m a. (a.0, a.1, inr (inl a.2))) ts z s.1
+          | inr s ↦
+              elim (branch_of (starts KwPre ts) (form_of previous (behind KwPre (R Unary)) ts) (r.application n R ts) (Some z) s.1) [
+                inl t ↦ prefix_stands KwPre previous (λ D x ts m a. (a.0, a.1, inr (inr a.2))) ts z t.1
+              | inr t ↦ looser Unary App nine_ten ts z (application_stands ts z t.1) ] ] ]
+
+  climbing_stands : (l : Level) → rank l ≤ 9 → (ts : List Token) (z : Got Tree) → (r.operand n R ts >>= λ x. r.climb n R n l Unary x.0 x.1 x.2) ≡ Some z → Stands (Next l) ts z
+  climbing_stands l low ts z read =
+      let a = some_of (r.operand n R ts) (λ x. r.climb n R n l Unary x.0 x.1 x.2) z read in
+      let s = operand_stands ts a.0 a.1 in
+      climb_stands l n ts Unary low a.0.0 a.0.1 a.0.2 s.0 (whole (λ D. IsExpr D Unary) ts a.0 s) z a.2
+
+  pub phrase_stands : (l : Level) (ts : List Token) (z : Got Tree) → r.phrase n R l ts ≡ Some z → Stands (Next l) ts z
+  unfolding r.phrase
+  phrase_stands Atom ts z read = atom_stands ts z read
+  phrase_stands App ts z read = application_stands ts z read
+  phrase_stands Expr ts z read =
+      elim (branch_of (starts KwIf ts) (r.conditional n R ts) (r.operand n R ts >>= λ x. r.climb n R n Expr Unary x.0 x.1 x.2) (Some z) read) [
+        inl q ↦ (tall_rule Expr (r.conditional n R) conditional_stands Expr (le_refl 0)).stands ts z q.1
+      | inr q ↦ climbing_stands Expr (none_less 9) ts z q.1 ]
+  phrase_stands level ts z read = climbing_stands level (omega arith) ts z read
+
+-- What is read of an expression is one.
+pub sound_expression : (n : ℕ) → 1 ≤ n → (depth : ℕ) (l : Level) → Sound Tree (r.expression n depth l) (λ D. IsExpr D l)
+unfolding r.expression
+sound_expression n pos zero l = record { reads = λ ts z e. absurd (none_some z e) }
+sound_expression n pos (suc depth) l = record { reads = λ ts z e.
+    whole (λ D. IsExpr D l) ts z (phrase_stands n pos (r.expression n depth) (sound_expression n pos depth) l ts z e) }

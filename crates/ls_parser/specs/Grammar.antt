@@ -136,14 +136,27 @@ equations Q = separated KwAnd Q
 abbrev pub case_name : Phrase Name
 case_name = constructor or sole KwTrue true_name or sole KwFalse false_name
 
--- a state is left where a condition is true, for a state that is entered anew by `then`
-abbrev pub transition : Phrase Tree → Fixed → Phrase (Guard Plain)
-transition E w =
+-- a guard of a state, by the word that begins it: the state is left where the condition is true, for a state that is entered anew by `then`
+abbrev pub guarded : Phrase Tree → Fixed → Phrase (Guard Plain)
+guarded E w =
     (w ▷ (E ⊗ (KwThen ▷ constructor))) ⇒ (λ p. guard p.0 true p.1)
     or (w ▷ (E ⊗ (KwContinue ▷ constructor))) ⇒ (λ p. guard p.0 false p.1)
 
--- E, P, Q and H are the relations of the expressions, patterns, equations and handlers that are less high. Q true is that of the equations of a `do`.
-module _ (E : Phrase Tree) (P : Phrase Pat) (Q : Bool → Phrase (Equation Plain)) (H : Phrase (Handler Plain)) where
+-- a guard of a state, strong (`unless`) or weak (`until`)
+abbrev pub transition : Phrase Tree → Phrase (Bool × Guard Plain)
+transition E = guarded E KwUnless ⇒ (λ g. (true, g)) or guarded E KwUntil ⇒ (λ g. (false, g))
+
+-- Guards up to a height.
+abbrev pub IsGuard : ℕ → Phrase (Bool × Guard Plain)
+IsGuard zero x ts = ⊥
+IsGuard (suc height) x ts = transition (IsExpr height Expr) x ts
+
+-- what stands behind the equations of a state whose guards are those of G
+abbrev pub exits : Phrase (Bool × Guard Plain) → Phrase (List (Bool × Guard Plain))
+exits G = sole KwDone [] or some G or (some G ◁ KwDone)
+
+-- E, P, Q, H and G are the relations of the expressions, patterns, equations, handlers and guards that are less high. Q true is that of the equations of a `do`.
+module _ (E : Phrase Tree) (P : Phrase Pat) (Q : Bool → Phrase (Equation Plain)) (H : Phrase (Handler Plain)) (G : Phrase (Bool × Guard Plain)) where
   -- a handler, up to its end
   abbrev pub handler : Phrase (Handler Plain)
   handler = H ◁ KwDone
@@ -157,16 +170,8 @@ module _ (E : Phrase Tree) (P : Phrase Pat) (Q : Bool → Phrase (Equation Plain
   abbrev pub test : Phrase (Test Plain)
   test = (identifier ⊗ (maybe (ParenLeft ▷ (P ◁ ParenRight)) ⊗ (Arrow ▷ handler))) ⇒ (λ p. test_of p.0 p.1.0 p.1.1)
 
-  -- the guards of a state, each strong (`unless`) or weak (`until`)
-  abbrev pub guard_or : Phrase (Bool × Guard Plain)
-  guard_or = transition E KwUnless ⇒ (λ g. (true, g)) or transition E KwUntil ⇒ (λ g. (false, g))
-
-  -- what stands behind the equations of a state
-  abbrev pub guards : Phrase (List (Bool × Guard Plain))
-  guards = sole KwDone [] or some guard_or or (some guard_or ◁ KwDone)
-
   abbrev pub state : Phrase (State Plain)
-  state = (constructor ⊗ (Arrow ▷ (H ⊗ guards))) ⇒ (λ p. state_of p.0 p.1.0 p.1.1)
+  state = (constructor ⊗ (Arrow ▷ (H ⊗ exits G))) ⇒ (λ p. state_of p.0 p.1.0 p.1.1)
 
   -- `clock` and `last`, which do not stand in a `do`
   abbrev pub outer : Phrase (Equation Plain)
@@ -200,12 +205,12 @@ abbrev mutual
   -- Equations up to a height, in a `do` or elsewhere.
   pub IsEquation : ℕ → Bool → Phrase (Equation Plain)
   IsEquation zero in_do x ts = ⊥
-  IsEquation (suc height) in_do x ts = equation (IsExpr height Expr) (IsPat height) (IsEquation height) (IsHandler height) in_do x ts
+  IsEquation (suc height) in_do x ts = equation (IsExpr height Expr) (IsPat height) (IsEquation height) (IsHandler height) (IsGuard height) in_do x ts
 
   -- Handlers without their end, up to a height.
   pub IsHandler : ℕ → Phrase (Handler Plain)
   IsHandler zero x ts = ⊥
-  IsHandler (suc height) x ts = doing (IsExpr height Expr) (IsPat height) (IsEquation height) (IsHandler height) x ts
+  IsHandler (suc height) x ts = doing (IsExpr height Expr) (IsPat height) (IsEquation height) (IsHandler height) (IsGuard height) x ts
 
 -- the body of a definition, up to a height
 abbrev pub IsBody : ℕ → Phrase (BodyOf Plain)
