@@ -1,5 +1,6 @@
 pub mod Files
 pub mod Front
 pub mod Loops
+pub mod SoundDefs
 pub mod SoundEqs
 pub mod SoundExpr

@@ -171,7 +171,7 @@ module _ (n : ℕ) (pos : 1 ≤ n) (E : Reader Tree) (P : Reader Pat) (Q : Bool 
   at_inner true D x ts m a = a
   at_inner false D x ts m a = (a.0, a.1, inr a.2)
 
-  equations_read : (b : Bool) (ts : List Token) (z : Got (List (Equation Plain))) → r.equations n E P Q H b ts ≡ Some z → Reads (λ D. Eqs D b) ts z
+  pub equations_read : (b : Bool) (ts : List Token) (z : Got (List (Equation Plain))) → r.equations n E P Q H b ts ≡ Some z → Reads (λ D. Eqs D b) ts z
   unfolding r.equations
   equations_read b ts z e = sound_separated n (starts KwAnd) KwAnd (Q b) (λ D. IsEquation D b) (sq b) ts z e
 

@@ -225,3 +225,26 @@ IsDef (suc height) line x ts = (
     or (KwLet ▷ (identifier ⊗ (many (IsPat height) ⊗ (Equal ▷ IsBody height)))) ⇒ (λ p. definition line false p.0 p.1.0 p.1.1)
     or (KwLet ▷ (KwNode ▷ (identifier ⊗ (some (IsPat height) ⊗ (Equal ▷ IsBody height))))) ⇒ (λ p. definition line true p.0 p.1.0 p.1.1)
     ) x ts
+
+-- a definition: its height is at most 200, and its line is that of its first token
+abbrev pub IsDefinition : DefOf Plain → List (Line × Token) → Type 0
+IsDefinition d [] = ⊥
+IsDefinition d (t ∷ ts) = IsDef 200 t.0 d (map (λ p. p.1) (t ∷ ts))
+
+-- what may follow a definition: `let`, `type` or the end
+abbrev pub MayFollow : List (Line × Token) → Type 0
+MayFollow [] = Unit {0}
+MayFollow (t ∷ ts) = (t.1 ≡ Word KwLet) ⊎ (t.1 ≡ Word KwType)
+
+-- definitions one after the other, each followed by what may follow it, before what is left
+abbrev pub IsRow : List (DefOf Plain) → List (Line × Token) → List (Line × Token) → Type 0
+IsRow [] ts left = ts ≡ left
+IsRow (d ∷ ds) ts left = (front : List (Line × Token)) × (back : List (Line × Token)) × (ts ≡ front ++ back) × IsDefinition d front × MayFollow back × IsRow ds back left
+
+-- a file
+abbrev pub IsFile : List (DefOf Plain) → List (Line × Token) → Type 0
+IsFile defs ts = IsRow defs ts []
+
+-- definitions, and then tokens of which the first stands in the line
+abbrev pub StopsAt : List (Line × Token) → Line → Type 0
+StopsAt ts line = (defs : List (DefOf Plain)) × (t : Line × Token) × (left : List (Line × Token)) × (t.0 ≡ line) × IsRow defs ts (t ∷ left)
