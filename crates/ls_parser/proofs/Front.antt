@@ -51,8 +51,9 @@ unfolding word
 word_of w ts m e =
     let p = some_of (uncons ts) (λ p. if is_word w p.0 then Some p.1 else None) m e in
     elim (branch_of (is_word w p.0.0) (Some p.0.1) None (Some m) p.2) [
-      inl q ↦ cons_of ts p.0 p.1 ∙ (λ i. word_one w p.0.0 q.0 i ∷ some_one p.0.1 m q.1 i)
-    | inr q ↦ absurd (none_some m q.1) ]
+      | inl q ↦ cons_of ts p.0 p.1 ∙ (λ i. word_one w p.0.0 q.0 i ∷ some_one p.0.1 m q.1 i)
+      | inr q ↦ absurd (none_some m q.1)
+    ]
 
 pub id_of : (t : Token) (x : Name) → name_of t ≡ Some x → t ≡ Id x
 id_of (Id y) x e = ap Id (some_one y x e)
@@ -164,23 +165,29 @@ pub give : {Z : Type 0} (P : Z → Type 0) (u v : Z) → Some u ≡ Some v → P
 give P u v e a = subst P (some_one u v e) a
 
 pub sound_behind : {A : Type 0} {r : Reader A} {p : ℕ → Phrase A} (w : Fixed) → Sound A r p → Sound A (behind w r) (λ D. w ▷ p D)
-sound_behind {A} {r} {p} w s = record { reads = λ ts z e D le.
-    let q = some_of (word w ts) r z e in
-    at_word (p D) w z.0 ts q.0 z.2 (word_of w ts q.0 q.1) (s.reads q.0 z q.2 D le) }
+sound_behind {A} {r} {p} w s = record {
+  reads = λ ts z e D le.
+      let q = some_of (word w ts) r z e in
+      at_word (p D) w z.0 ts q.0 z.2 (word_of w ts q.0 q.1) (s.reads q.0 z q.2 D le);
+}
 
 pub sound_both : {A B : Type 0} {r : Reader A} {s : Reader B} {p : ℕ → Phrase A} {q : ℕ → Phrase B} → Sound A r p → Sound B s q → Sound (A × B) (both r s) (λ D. p D ⊗ q D)
-sound_both {A} {B} {r} {s} {p} {q} f g = record { reads = λ ts z e.
-    let a = some_of (r ts) (λ x. s x.2 >>= λ y. Some ((x.0, y.0), max x.1 y.1, y.2)) z e in
-    let b = some_of (s a.0.2) (λ y. Some ((a.0.0, y.0), max a.0.1 y.1, y.2)) z a.2 in
-    give (Reads (λ D. p D ⊗ q D) ts) ((a.0.0, b.0.0), max a.0.1 b.0.1, b.0.2) z b.2
-      (λ D le. at_both (p D) (q D) a.0.0 b.0.0 ts a.0.2 b.0.2 (f.reads ts a.0 a.1 D (max_left a.0.1 b.0.1 D le)) (g.reads a.0.2 b.0 b.1 D (max_right a.0.1 b.0.1 D le))) }
+sound_both {A} {B} {r} {s} {p} {q} f g = record {
+  reads = λ ts z e.
+      let a = some_of (r ts) (λ x. s x.2 >>= λ y. Some ((x.0, y.0), max x.1 y.1, y.2)) z e in
+      let b = some_of (s a.0.2) (λ y. Some ((a.0.0, y.0), max a.0.1 y.1, y.2)) z a.2 in
+      give (Reads (λ D. p D ⊗ q D) ts) ((a.0.0, b.0.0), max a.0.1 b.0.1, b.0.2) z b.2
+      (λ D le. at_both (p D) (q D) a.0.0 b.0.0 ts a.0.2 b.0.2 (f.reads ts a.0 a.1 D (max_left a.0.1 b.0.1 D le)) (g.reads a.0.2 b.0 b.1 D (max_right a.0.1 b.0.1 D le)));
+}
 
 pub tall_form : {A B : Type 0} {r : Reader A} {p : ℕ → Phrase A} (f : A → B) → Sound A r p → Tall B (form_of f r) (λ D. p D ⇒ f)
-tall_form {A} {B} {r} {p} f s = record { stands = λ ts z e.
-    let a = some_of (r ts) (λ x. taller x.1 >>= λ h. Some (f x.0, h, x.2)) z e in
-    let b = some_of (taller a.0.1) (λ h. Some (f a.0.0, h, a.0.2)) z a.2 in
-    give (Stands (λ D. p D ⇒ f) ts) (f a.0.0, b.0, a.0.2) z b.2
-      (one_more a.0.1 b.0 b.1, λ D le. at_made (p D) f a.0.0 (f a.0.0) ts a.0.2 refl (s.reads ts a.0 a.1 D (less_high a.0.1 b.0 D b.1 le))) }
+tall_form {A} {B} {r} {p} f s = record {
+  stands = λ ts z e.
+      let a = some_of (r ts) (λ x. taller x.1 >>= λ h. Some (f x.0, h, x.2)) z e in
+      let b = some_of (taller a.0.1) (λ h. Some (f a.0.0, h, a.0.2)) z a.2 in
+      give (Stands (λ D. p D ⇒ f) ts) (f a.0.0, b.0, a.0.2) z b.2
+      (one_more a.0.1 b.0 b.1, λ D le. at_made (p D) f a.0.0 (f a.0.0) ts a.0.2 refl (s.reads ts a.0 a.1 D (less_high a.0.1 b.0 D b.1 le)));
+}
 
 -- what is higher than its parts
 pub whole : {A : Type 0} (p : ℕ → Phrase A) (ts : List Token) (z : Got A) → Stands (λ D. p (suc D)) ts z → Reads p ts z
@@ -201,12 +208,18 @@ module _ {A : Type 0} where
   sound_collect (suc k) test r p s done g ts z e =
       let stop : Behind p done g ts (done, g, ts) = (le_refl g, ([], sym (append_nil done), λ D le. at_none (p D) ts)) in
       elim (branch_of (test ts) (r ts >>= λ x. collect k test r (done ++ x.0 ∷ []) (max g x.1) x.2) (Some (done, g, ts)) (Some z) e) [
-        inl q ↦
-          let a = some_of (r ts) (λ x. collect k test r (done ++ x.0 ∷ []) (max g x.1) x.2) z q.1 in
-          let b = sound_collect k test r p s (done ++ a.0.0 ∷ []) (max g a.0.1) a.0.2 z a.2 in
-          (max_left g a.0.1 z.1 b.0, (a.0.0 ∷ b.1.0, b.1.1 ∙ append_assoc done (a.0.0 ∷ []) b.1.0,
-            λ D le. at_more (p D) a.0.0 b.1.0 ts a.0.2 z.2 (s.reads ts a.0 a.1 D (le_trans a.0.1 z.1 D (max_right g a.0.1 z.1 b.0) le)) (b.1.2 D le)))
-      | inr q ↦ give (Behind p done g ts) (done, g, ts) z q.1 stop ]
+        | inl q ↦
+            let a = some_of (r ts) (λ x. collect k test r (done ++ x.0 ∷ []) (max g x.1) x.2) z q.1 in
+            let b = sound_collect k test r p s (done ++ a.0.0 ∷ []) (max g a.0.1) a.0.2 z a.2 in (
+              max_left g a.0.1 z.1 b.0,
+              (
+                a.0.0 ∷ b.1.0,
+                b.1.1 ∙ append_assoc done (a.0.0 ∷ []) b.1.0,
+                λ D le. at_more (p D) a.0.0 b.1.0 ts a.0.2 z.2 (s.reads ts a.0 a.1 D (le_trans a.0.1 z.1 D (max_right g a.0.1 z.1 b.0) le)) (b.1.2 D le),
+              ),
+            )
+        | inr q ↦ give (Behind p done g ts) (done, g, ts) z q.1 stop
+      ]
 
   -- the same where one begins, and at least one turn is left
   abbrev pub Begins : (ℕ → Phrase A) → List A → ℕ → List Token → Got (List A) → Type 0
@@ -216,12 +229,19 @@ module _ {A : Type 0} where
       → test ts ≡ true → collect (suc k) test r done g ts ≡ Some z → Begins p done g ts z
   begins_suc k test r p s done g ts z begun e =
       elim (branch_of (test ts) (r ts >>= λ x. collect k test r (done ++ x.0 ∷ []) (max g x.1) x.2) (Some (done, g, ts)) (Some z) e) [
-        inl q ↦
-          let a = some_of (r ts) (λ x. collect k test r (done ++ x.0 ∷ []) (max g x.1) x.2) z q.1 in
-          let b = sound_collect k test r p s (done ++ a.0.0 ∷ []) (max g a.0.1) a.0.2 z a.2 in
-          (max_left g a.0.1 z.1 b.0, (a.0.0, b.1.0, b.1.1 ∙ append_assoc done (a.0.0 ∷ []) b.1.0,
-            λ D le. at_more (p D) a.0.0 b.1.0 ts a.0.2 z.2 (s.reads ts a.0 a.1 D (le_trans a.0.1 z.1 D (max_right g a.0.1 z.1 b.0) le)) (b.1.2 D le)))
-      | inr q ↦ absurd (true_false (sym begun ∙ q.0)) ]
+        | inl q ↦
+            let a = some_of (r ts) (λ x. collect k test r (done ++ x.0 ∷ []) (max g x.1) x.2) z q.1 in
+            let b = sound_collect k test r p s (done ++ a.0.0 ∷ []) (max g a.0.1) a.0.2 z a.2 in (
+              max_left g a.0.1 z.1 b.0,
+              (
+                a.0.0,
+                b.1.0,
+                b.1.1 ∙ append_assoc done (a.0.0 ∷ []) b.1.0,
+                λ D le. at_more (p D) a.0.0 b.1.0 ts a.0.2 z.2 (s.reads ts a.0 a.1 D (le_trans a.0.1 z.1 D (max_right g a.0.1 z.1 b.0) le)) (b.1.2 D le),
+              ),
+            )
+        | inr q ↦ absurd (true_false (sym begun ∙ q.0))
+      ]
 
   pub sound_begins : (n : ℕ) → 1 ≤ n → (test : List Token → Bool) (r : Reader A) (p : ℕ → Phrase A) → Sound A r p → (done : List A) (g : ℕ) (ts : List Token) (z : Got (List A))
       → test ts ≡ true → collect n test r done g ts ≡ Some z → Begins p done g ts z
@@ -235,4 +255,4 @@ sound_separated n test w r p s ts z e D le =
     let a = some_of (r ts) (λ x. collect n test (behind w r) (x.0 ∷ []) x.1 x.2) z e in
     let b = sound_collect n test (behind w r) (λ D. w ▷ p D) (sound_behind w s) (a.0.0 ∷ []) a.0.1 a.0.2 z a.2 in
     subst (λ xs. At (separated w (p D)) xs ts z.2) (sym b.1.1)
-      (at_both (p D) (many (w ▷ p D)) a.0.0 b.1.0 ts a.0.2 z.2 (s.reads ts a.0 a.1 D (le_trans a.0.1 z.1 D b.0 le)) (b.1.2 D le))
+    (at_both (p D) (many (w ▷ p D)) a.0.0 b.1.0 ts a.0.2 z.2 (s.reads ts a.0 a.1 D (le_trans a.0.1 z.1 D b.0 le)) (b.1.2 D le))

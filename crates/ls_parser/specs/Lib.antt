@@ -1,3 +1,4 @@
+pub mod Answers
 pub mod Definitions
 pub mod Equations
 pub mod Expressions

@@ -42,6 +42,7 @@ impl From<AllocError> for Stop {
 
 /// The tokens that are read, and the memory for what is read. A function that reads takes the
 /// place where it begins, and answers the place behind.
+#[derive(Drop)]
 pub struct Parser<'a> {
     pub alloc: Global,
     pub tokens: &'a [(Line, Token)],

@@ -2,6 +2,8 @@
 
 ghost use Rattle.std.specs.Prelude.{◌≡◌, ◌+◌, ◌≤◌, ◌<◌, [], map, drop, length, IfOk};
 ghost use Rattle.std.specs.Option.{option_map};
+ghost use Rattle.ls_parser.specs.Answers.{IfSyntax};
+ghost use Rattle.ls_parser.specs.Grammar.{IsFile, StopsAt};
 ghost use Rattle.ls_parser.specs.Reading.{rest, seen, Gives};
 ghost use Rattle.ls_parser.specs.Definitions as spec;
 ghost use Rattle.ls_parser.specs.declared.definitions.SyntaxFault.TheVariants.{NoMemory as Refused};
@@ -247,8 +249,8 @@ impl Parser<'_> {
         }
     }
 
-    /// The definitions of the file.
-    pub fn file(&self) -> Result<List<DefOf<Plain>>, SyntaxFault>
+    // The definitions of the file, as they are read.
+    fn file(&self) -> Result<List<DefOf<Plain>>, SyntaxFault>
         ensures { spec.IsRead result (spec.file_from self.now.tokens.now (length self.now.tokens.now) [] self.now.tokens.now) }
     {
         let mut defs = List::new(self.alloc);
@@ -266,5 +268,13 @@ impl Parser<'_> {
             }
         }
         Ok(defs)
+    }
+
+    /// The definitions of the file, by the grammar.
+    pub fn defs(&self) -> Result<List<DefOf<Plain>>, SyntaxFault>
+        ensures file { IfOk result (λ defs. IsFile defs self.now.tokens.now) }
+        ensures fault { IfSyntax result (λ line. StopsAt self.now.tokens.now line) }
+    {
+        self.file()
     }
 }

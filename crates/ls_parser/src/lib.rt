@@ -5,9 +5,11 @@ mod cursor;
 mod definitions;
 mod equations;
 mod expressions;
+mod file;
 mod level;
 mod patterns;
 
 pub use cursor::{Parser, Read, Stop, taller};
 pub use definitions::SyntaxFault;
+pub use file::parse;
 pub use level::{Infix, Level};
