@@ -322,8 +322,7 @@ impl Parser<'_> {
         ensures { Gives (λ x. seen self.now.tokens.now x) result (spec.handler (length self.now.tokens.now) (expression (length self.now.tokens.now) parts Whole) (pattern (length self.now.tokens.now) parts) (spec.equation_at (length self.now.tokens.now) parts) (spec.doing_at (length self.now.tokens.now) parts) (rest self.now.tokens.now at)) }
     {
         let (handler, height, at) = self.doing(at, parts)?;
-        let at = self.word(at, Fixed::KwDone)?;
-        Ok((handler, height, at))
+        Ok((handler, height, self.word(at, Fixed::KwDone)?))
     }
 
     // An arm of a `match`.
