@@ -481,12 +481,15 @@ module _ (n : ℕ) (pos : 1 ≤ n) (R : Level → Reader Tree) (sr : (l : Level)
             )
       ]
 
+  looser : (l k : Level) → rank l ≤ rank k → (ts : List Token) (z : Got Tree) → Stands (Next k) ts z → Stands (Next l) ts z
+  looser l k low ts z s = (s.0, λ D le. loosen (suc D) l k z.0 ts z.2 low (s.1 D le))
+
   group_stands : (ts m : List Token) → ts ≡ Word ParenLeft ∷ m → (z : Got Tree) → r.group n R m ≡ Some z → Stands (Next Atom) ts z
   unfolding r.group
   group_stands ts m first z read =
       elim (branch_of (starts ParenRight m) (word ParenRight m >>= λ m. Some (constant leaf.Unit, 1, m))
       (if r.begins_call m then
-      (r.call n R m >>= λ x. if starts KwEvery x.2 then r.every n R x.0.0 x.0.1.0 x.0.1.1 x.1 x.2 else (applied x.0.0 x.0.1.0 x.0.1.1 >>= λ e. taller x.1 >>= λ h. r.climb n R n Expr App e h x.2 >>= λ y. r.group_from n R y.0 y.1 y.2))
+      (r.call n R m >>= λ x. if starts KwEvery x.2 then r.every n R x.0.0 x.0.1.0 x.0.1.1 x.1 x.2 else (applied x.0.0 x.0.1.0 x.0.1.1 >>= λ e. taller x.1 >>= λ h. r.climb n R n Expr Unary e h x.2 >>= λ y. r.group_from n R y.0 y.1 y.2))
       else (R Expr m >>= λ y. r.group_from n R y.0 y.1 y.2)) (Some z) read) [
         | inl q ↦
             let a = some_of (word ParenRight m) (λ m. Some (constant leaf.Unit, 1, m)) z q.1 in
@@ -497,19 +500,20 @@ module _ (n : ℕ) (pos : 1 ≤ n) (R : Level → Reader Tree) (sr : (l : Level)
             )
         | inr q ↦
             elim (branch_of (r.begins_call m)
-            (r.call n R m >>= λ x. if starts KwEvery x.2 then r.every n R x.0.0 x.0.1.0 x.0.1.1 x.1 x.2 else (applied x.0.0 x.0.1.0 x.0.1.1 >>= λ e. taller x.1 >>= λ h. r.climb n R n Expr App e h x.2 >>= λ y. r.group_from n R y.0 y.1 y.2))
+            (r.call n R m >>= λ x. if starts KwEvery x.2 then r.every n R x.0.0 x.0.1.0 x.0.1.1 x.1 x.2 else (applied x.0.0 x.0.1.0 x.0.1.1 >>= λ e. taller x.1 >>= λ h. r.climb n R n Expr Unary e h x.2 >>= λ y. r.group_from n R y.0 y.1 y.2))
             (R Expr m >>= λ y. r.group_from n R y.0 y.1 y.2) (Some z) q.1) [
               | inl s ↦
-                  let a = some_of (r.call n R m) (λ x. if starts KwEvery x.2 then r.every n R x.0.0 x.0.1.0 x.0.1.1 x.1 x.2 else (applied x.0.0 x.0.1.0 x.0.1.1 >>= λ e. taller x.1 >>= λ h. r.climb n R n Expr App e h x.2 >>= λ y. r.group_from n R y.0 y.1 y.2)) z s.1 in
+                  let a = some_of (r.call n R m) (λ x. if starts KwEvery x.2 then r.every n R x.0.0 x.0.1.0 x.0.1.1 x.1 x.2 else (applied x.0.0 x.0.1.0 x.0.1.1 >>= λ e. taller x.1 >>= λ h. r.climb n R n Expr Unary e h x.2 >>= λ y. r.group_from n R y.0 y.1 y.2)) z s.1 in
                   let loose = call_read m a.0 a.1 in
-                  elim (branch_of (starts KwEvery a.0.2) (r.every n R a.0.0.0 a.0.0.1.0 a.0.0.1.1 a.0.1 a.0.2) (applied a.0.0.0 a.0.0.1.0 a.0.0.1.1 >>= λ e. taller a.0.1 >>= λ h. r.climb n R n Expr App e h a.0.2 >>= λ y. r.group_from n R y.0 y.1 y.2) (Some z) a.2) [
+                  elim (branch_of (starts KwEvery a.0.2) (r.every n R a.0.0.0 a.0.0.1.0 a.0.0.1.1 a.0.1 a.0.2) (applied a.0.0.0 a.0.0.1.0 a.0.0.1.1 >>= λ e. taller a.0.1 >>= λ h. r.climb n R n Expr Unary e h a.0.2 >>= λ y. r.group_from n R y.0 y.1 y.2) (Some z) a.2) [
                     | inl t ↦ every_stands ts m first a.0.0.0 a.0.0.1.0 a.0.0.1.1 a.0.1 a.0.2 loose z t.1
                     | inr t ↦
-                        let b = some_of (applied a.0.0.0 a.0.0.1.0 a.0.0.1.1) (λ e. taller a.0.1 >>= λ h. r.climb n R n Expr App e h a.0.2 >>= λ y. r.group_from n R y.0 y.1 y.2) z t.1 in
-                        let c = some_of (taller a.0.1) (λ h. r.climb n R n Expr App b.0 h a.0.2 >>= λ y. r.group_from n R y.0 y.1 y.2) z b.2 in
-                        let d = some_of (r.climb n R n Expr App b.0 c.0 a.0.2) (λ y. r.group_from n R y.0 y.1 y.2) z c.2 in
+                        let b = some_of (applied a.0.0.0 a.0.0.1.0 a.0.0.1.1) (λ e. taller a.0.1 >>= λ h. r.climb n R n Expr Unary e h a.0.2 >>= λ y. r.group_from n R y.0 y.1 y.2) z t.1 in
+                        let c = some_of (taller a.0.1) (λ h. r.climb n R n Expr Unary b.0 h a.0.2 >>= λ y. r.group_from n R y.0 y.1 y.2) z b.2 in
+                        let d = some_of (r.climb n R n Expr Unary b.0 c.0 a.0.2) (λ y. r.group_from n R y.0 y.1 y.2) z c.2 in
                         let s1 = applied_stands App (le_refl 10) a.0.0.0 a.0.0.1.0 a.0.0.1.1 b.0 a.0.1 c.0 m a.0.2 b.1 c.1 loose in
-                        let s2 = climb_stands Expr n m App (none_less 10) b.0 c.0 a.0.2 s1.0 (whole (λ D. IsExpr D App) m (b.0, c.0, a.0.2) s1) d.0 d.1 in
+                        let s3 = looser Unary App nine_ten m (b.0, c.0, a.0.2) s1 in
+                  let s2 = climb_stands Expr n m Unary (none_less 9) b.0 c.0 a.0.2 s3.0 (whole (λ D. IsExpr D Unary) m (b.0, c.0, a.0.2) s3) d.0 d.1 in
                         group_from_stands ts m first d.0.0 d.0.1 d.0.2 (whole (λ D. IsExpr D Expr) m d.0 s2) z d.2
                   ]
               | inr s ↦
@@ -565,9 +569,6 @@ module _ (n : ℕ) (pos : 1 ≤ n) (R : Level → Reader Tree) (sr : (l : Level)
                   ]
             ]
       ]
-
-  looser : (l k : Level) → rank l ≤ rank k → (ts : List Token) (z : Got Tree) → Stands (Next k) ts z → Stands (Next l) ts z
-  looser l k low ts z s = (s.0, λ D le. loosen (suc D) l k z.0 ts z.2 low (s.1 D le))
 
   application_at_stands : (t : Token) (m ts : List Token) → ts ≡ t ∷ m → (z : Got Tree) → r.application_at n R t m ts ≡ Some z → Stands (Next App) ts z
   application_at_stands (Prefix o) m ts is z read = prefixed_stands App (le_refl 10) o ts m is z read

@@ -160,7 +160,7 @@ module _ (n : ℕ) (R : Level → Reader Tree) where
       else if begins_call ts then
       (call ts >>= λ x.
       if starts KwEvery x.2 then every x.0.0 x.0.1.0 x.0.1.1 x.1 x.2
-      else (applied x.0.0 x.0.1.0 x.0.1.1 >>= λ e. taller x.1 >>= λ h. climb n Expr App e h x.2 >>= λ y. group_from y.0 y.1 y.2))
+      else (applied x.0.0 x.0.1.0 x.0.1.1 >>= λ e. taller x.1 >>= λ h. climb n Expr Unary e h x.2 >>= λ y. group_from y.0 y.1 y.2))
       else (R Expr ts >>= λ y. group_from y.0 y.1 y.2)
 
   unfoldable pub atom : Reader Tree
