@@ -1,0 +1,8 @@
+use Rattle.ls_parser.proofs.SoundDefs.{file_is, fault_is}
+use Rattle.ls_parser.proofs.cursor.Parser.defs.Goals as goal
+
+pub returns-clause-file : goal.returns-clause-file
+returns-clause-file c = file_is c.args.self.now.tokens.now c.file.result c.file.ensures
+
+pub returns-clause-fault : goal.returns-clause-fault
+returns-clause-fault c = fault_is c.args.self.now.tokens.now c.file.result c.file.ensures

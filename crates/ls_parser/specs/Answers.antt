@@ -1,0 +1,11 @@
+-- The answers of the parser.
+use Rattle.std.specs.Prelude.{Result, Ok, Err}
+use Rattle.ls_base.specs.declared.Line.{Line}
+use Rattle.ls_parser.specs.declared.definitions.SyntaxFault.{SyntaxFault}
+use Rattle.ls_parser.specs.declared.definitions.SyntaxFault.TheVariants as fault
+
+-- a fact about the line of a syntax fault
+abbrev pub IfSyntax : {X : Type 0} → Result X SyntaxFault → (Line → Type 0) → Type 0
+IfSyntax (Ok x) p = Unit {0}
+IfSyntax (Err (fault.Syntax line)) p = p line
+IfSyntax (Err fault.NoMemory) p = Unit {0}

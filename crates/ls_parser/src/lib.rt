@@ -1,0 +1,15 @@
+//! The parser: from the tokens of a file to its tree.
+#![tactic(auto)]
+
+mod cursor;
+mod definitions;
+mod equations;
+mod expressions;
+mod file;
+mod level;
+mod patterns;
+
+pub use cursor::{Parser, Read, Stop, taller};
+pub use definitions::SyntaxFault;
+pub use file::parse;
+pub use level::{Infix, Level};
