@@ -13,9 +13,9 @@ use Rattle.line_io.specs.declared.form.Reading.TheVariants as readings
 use Rattle.line_io.specs.Cells.{IsLine, IsBadField, CellAt, CellIs, IsOn}
 use Rattle.line_io.specs.Fields.{ReadsAs, Spells}
 use Rattle.line_io.specs.Words.{words_of}
-use Rattle.lsc_cli.specs.Bytes.{int_of, is_int_text}
+use Rattle.lsc_cli.specs.IntText.{int_of, is_int_text}
 use Rattle.lsc_cli.specs.IntLine.{int_form, int_field, int_in, input_of, only_int}
-use Rattle.lsc_cli.proofs.FormLemmas.{int_text, is_text}
+use Rattle.lsc_cli.proofs.IntTextLemmas.{int_text, is_text}
 
 -- what asks for no other field is always there
 always_on : (rs : List Reading) → IsOn rs []

@@ -1,4 +1,5 @@
 pub mod ClosingLemmas
-pub mod FormLemmas
 pub mod IntLineLemmas
+pub mod IntTextLemmas
+pub mod JudgedLemmas
 pub mod RunLemmas

@@ -8,7 +8,7 @@ use Rattle.line_io.specs.declared.form.Cell.{Cell}
 use Rattle.line_io.specs.declared.form.Cell.TheVariants.{Absent, Leaf as Given}
 use Rattle.line_io.specs.Words.{words_of}
 use Rattle.line_io.specs.Rows as rows
-use Rattle.lsc_cli.specs.Bytes.{int_of}
+use Rattle.lsc_cli.specs.IntText.{int_of}
 
 abbrev pub int_field : Field
 int_field = record { shape = Ints; on = []; signal = None }

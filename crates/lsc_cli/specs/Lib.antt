@@ -1,7 +1,7 @@
-pub mod Bytes
 pub mod Drive
-pub mod FormViews
 pub mod IntLine
+pub mod IntText
+pub mod Judged
 pub mod Outcome
 pub mod Ready
 pub mod SumForm

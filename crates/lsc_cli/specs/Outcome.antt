@@ -1,14 +1,25 @@
 -- What the top call writes, and its status.
-use Rattle.std.specs.Prelude.{◌≡◌, ℕ, ℤ, Bool, true, false, List, [], ◌∷◌, ◌++◌, Option, Some, None, codes, length, nat_lt, decimal, if◌then◌else◌}
+use Rattle.std.specs.Prelude.{◌≡◌, ℕ, ℤ, Bool, true, false, List, [], ◌∷◌, ◌++◌, Option, Some, None, codes, length, decimal, ◌<◌, ◌≤◌, if◌then◌else◌}
 use Rattle.std.specs.Option.{option_map}
-use Rattle.std.specs.Str.{bytes_eq}
 use Rattle.kahn_model.specs.declared.running_sum.RunningSum.{RunningSum}
 use Rattle.kahn_model.specs.RunningSum.{network}
 use Rattle.kahn_model.specs.RunText.{Node, Run, Stop, AtEnd, AtMost, AtLongLine, AtBadLine, AtAlarm, run}
 use Rattle.ls_base.specs.Outside.{WritesFront}
 use Rattle.line_io.specs.Line.{lines_of}
 use Rattle.lsc_cli.specs.IntLine.{input_of, row_text}
-use Rattle.lsc_cli.specs.SumForm.{SumFile, file_of}
+use Rattle.ls_base.specs.declared.Line.{Line}
+use Rattle.ls_ast.specs.declared.tree.DefOf.{DefOf}
+use Rattle.ls_ast.specs.declared.tree.Plain.{Plain}
+use Rattle.ls_lexer.specs.declared.fault.LexFault.{LexFault}
+use Rattle.ls_lexer.specs.declared.fault.LexFault.TheVariants as lex
+use Rattle.ls_lexer.specs.declared.token.Tokens.{Tokens}
+use Rattle.ls_lexer.specs.Lexing.{Lexes, IsLexFault}
+use Rattle.ls_parser.specs.declared.definitions.SyntaxFault.{SyntaxFault}
+use Rattle.ls_parser.specs.declared.definitions.SyntaxFault.TheVariants as syntax
+use Rattle.ls_parser.specs.Grammar.{IsFile, StopsAt}
+use Rattle.line_io.specs.Fields.{is_named}
+use Rattle.lsc_cli.specs.declared.form.SumNode.{SumNode}
+use Rattle.lsc_cli.specs.SumForm.{file_of as sum_of}
 use Rattle.lsc_cli.specs.declared.status.Status.{Status}
 use Rattle.lsc_cli.specs.declared.status.Status.TheVariants.{Done, Refused, Usage, BadLine, Alarm, Unloaded, ReadFault, WriteFault, NoMemory, TooLarge}
 
@@ -61,12 +72,43 @@ pub data Start : Type 0 where
   Ends : Outcome → Start
   Runs : RunningSum → Start
 
-abbrev pub start_node : List ℕ → Option SumFile → Start
-start_node node None = Ends (refusal (codes "refused: form not built\n"))
-start_node node (Some file) = if bytes_eq file.name node then Runs file.body else Ends (refusal (codes "refused: no such node\n"))
+-- a refusal's text and the line of the file that it names
+abbrev pub at_line : List ℕ → Line → List ℕ
+at_line text line = text ++ decimal line.0 ++ codes "\n"
 
-abbrev pub start_of : List ℕ → List ℕ → Start
-start_of node file = if nat_lt 1048576 (length file) then Ends too_large else start_node node (file_of file)
+-- what is written where the file is no row of tokens
+abbrev pub lex_text : LexFault → List ℕ
+lex_text (lex.NotUtf8 line) = at_line (codes "refused: not UTF-8 at line ") line
+lex_text (lex.Bad line) = at_line (codes "refused: bad character at line ") line
+lex_text (lex.LongText line) = at_line (codes "refused: text too long at line ") line
+lex_text (lex.WideInt line) = at_line (codes "refused: integer too wide at line ") line
+lex_text (lex.OpenComment line) = at_line (codes "refused: comment not closed at line ") line
+lex_text lex.NoMemory = []
+
+-- the line of a syntax fault
+abbrev pub syntax_line : SyntaxFault → Option Line
+syntax_line (syntax.Syntax line) = Some line
+syntax_line syntax.NoMemory = None
+
+-- and where its tokens are no file
+abbrev pub syntax_text : Line → List ℕ
+syntax_text line = at_line (codes "refused: syntax at line ") line
+
+-- where the file parses: the node of the form, if its name is the one asked for
+abbrev pub start_node : List ℕ → List (List ℕ) → Option SumNode → Start
+start_node node names None = Ends (refusal (codes "refused: form not built\n"))
+start_node node names (Some sum) = if is_named names node sum.name then Runs sum.body else Ends (refusal (codes "refused: no such node\n"))
+
+-- the tokens of a file and a node's name come to this: the grammar, the form and the name are judged in this order
+pub data IsTokensStart (node : List ℕ) (tokens : Tokens) (start : Start) : Type 0 where
+  NoFile : (line : Line) → StopsAt tokens.list line → start ≡ Ends (refusal (syntax_text line)) → IsTokensStart node tokens start
+  Parsed : (defs : List (DefOf Plain)) → IsFile defs tokens.list → start ≡ start_node node tokens.names (sum_of defs) → IsTokensStart node tokens start
+
+-- a file and a node's name come to this: the limit and the tokens are judged before
+pub data IsStart (node file : List ℕ) (start : Start) : Type 0 where
+  TooLong : 1048576 < length file → start ≡ Ends too_large → IsStart node file start
+  NoTokens : length file ≤ 1048576 → (fault : LexFault) → IsLexFault file fault → start ≡ Ends (refusal (lex_text fault)) → IsStart node file start
+  Lexed : length file ≤ 1048576 → (tokens : Tokens) → Lexes file tokens → IsTokensStart node tokens start → IsStart node file start
 
 -- the node runs, and this holds of its body
 abbrev pub OnRun : Start → (RunningSum → Type 0) → Type 0
@@ -114,3 +156,10 @@ pub record Comes (outcome : Outcome) (answer : Status) (old new : Option (List �
 -- the closing line of a run and its status
 abbrev pub closing : Stop → Outcome
 closing stop = record { status = status_of stop; text = closing_of stop }
+
+-- the answer is about the file and what follows, not about the words, the load or memory
+abbrev pub is_about_file : Status → Bool
+is_about_file Usage = false
+is_about_file Unloaded = false
+is_about_file NoMemory = false
+is_about_file _ = true

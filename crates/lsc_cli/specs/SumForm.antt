@@ -1,123 +1,131 @@
--- The one form of file that is run: `let node NAME PARAM = RESULT where rec S = PARAM + (K fby Y)`,
--- where S is not PARAM, and RESULT and Y are PARAM or S. A word is a small letter and then letters
--- and digits, K has 1 to 18 digits, each is the longest that it can be, and blanks stand at will.
-use Rattle.std.specs.Prelude.{ℕ, ℤ, Bool, true, false, ◌==◌, nat_le, not, ◌||◌, if◌then◌else◌, List, [], ◌∷◌, Option, Some, None, length, codes, slice_index, option_and_then}
-use Rattle.std.specs.Option.{option_map}
-use Rattle.std.specs.Str.{bytes_eq}
+-- The one form of file that is run: `let node NAME PARAM = RESULT where S = PARAM + (K fby Y)`, where S
+-- is another name than PARAM, RESULT and Y are PARAM or S, and K is an integer.
+use Rattle.std.specs.Prelude.{ℕ, ℤ, Bool, true, false, ◌==◌, not, ◌||◌, if◌then◌else◌, List, [], ◌∷◌, Option, Some, None, option_and_then}
+use Rattle.ls_base.specs.declared.Name.{Name}
+use Rattle.ls_ops.specs.declared.kinds.Op.{Op}
+use Rattle.ls_ops.specs.declared.kinds.Op.TheVariants as ops
+use Rattle.ls_value.specs.declared.leaf.Leaf.{Leaf}
+use Rattle.ls_value.specs.declared.leaf.Leaf.TheVariants as leaves
+use Rattle.ls_ast.specs.declared.tree.Arm.{Arm}
+use Rattle.ls_ast.specs.declared.tree.BodyOf.{BodyOf}
+use Rattle.ls_ast.specs.declared.tree.DefOf.{DefOf}
+use Rattle.ls_ast.specs.declared.tree.DefOf.TheVariants as defs
+use Rattle.ls_ast.specs.declared.tree.Equation.{Equation, out-Equation}
+use Rattle.ls_ast.specs.declared.tree.Equation.TheOpen.{Equation-F}
+use Rattle.ls_ast.specs.declared.tree.Expr.{Expr}
+use Rattle.ls_ast.specs.declared.tree.Form.{Form, out-Form}
+use Rattle.ls_ast.specs.declared.tree.Form.TheOpen.{Form-F}
+use Rattle.ls_ast.specs.declared.tree.Guard.{Guard}
+use Rattle.ls_ast.specs.declared.tree.Handler.{Handler}
+use Rattle.ls_ast.specs.declared.tree.State.{State}
+use Rattle.ls_ast.specs.declared.tree.Test.{Test}
+use Rattle.ls_ast.specs.declared.tree.Pat.{Pat, out-Pat}
+use Rattle.ls_ast.specs.declared.tree.Pat.TheOpen.{Pat-F}
+use Rattle.ls_ast.specs.declared.tree.Plain.{Plain}
+use Rattle.lsc_cli.specs.declared.form.Delay.{Delay}
+use Rattle.lsc_cli.specs.declared.form.Addition.{Addition}
+use Rattle.lsc_cli.specs.declared.form.SumNode.{SumNode}
 use Rattle.kahn_model.specs.declared.running_sum.RunningSum.{RunningSum}
 use Rattle.kahn_model.specs.declared.running_sum.Stream.{Stream}
 use Rattle.kahn_model.specs.declared.running_sum.Stream.TheVariants.{Param, Sum}
-use Rattle.lsc_cli.specs.Bytes.{is_blank, is_letter, is_digit, is_word_byte, front, behind, int_of}
 
 infixl 10 ◌>>=◌
 abbrev pub ◌>>=◌ : {A B : Type 0} → Option A → (A → Option B) → Option B
 o >>= f = option_and_then f o
 
--- the word after the blanks, and what follows it
-unfoldable pub word_at : List ℕ → Option (List ℕ × List ℕ)
-word_at bytes = let text = behind is_blank bytes in
-    if is_letter (slice_index text 0) then Some (front is_word_byte text, behind is_word_byte text) else None
+abbrev pub is_name : Name → Name → Bool
+is_name a b = a.0 == b.0
 
--- what follows this word
-unfoldable pub keyword_at : List ℕ → List ℕ → Option (List ℕ)
-keyword_at keyword bytes = do
-  word ← word_at bytes
-  if bytes_eq word.0 keyword then Some word.1 else None
+-- the name that an expression is
+abbrev pub variable_at : Form-F Plain (Form Plain) (Expr Plain) → Option Name
+variable_at (Form-F.Var name) = Some name
+variable_at _ = None
 
-abbrev pub is_keyword : List ℕ → Bool
-is_keyword word = bytes_eq word (codes "let") || bytes_eq word (codes "node") || bytes_eq word (codes "where")
-    || bytes_eq word (codes "rec") || bytes_eq word (codes "and") || bytes_eq word (codes "fby")
+abbrev pub variable_of : Expr Plain → Option Name
+variable_of e = variable_at (out-Form Plain e.form)
 
--- a word that is no keyword
-unfoldable pub name_at : List ℕ → Option (List ℕ × List ℕ)
-name_at bytes = do
-  word ← word_at bytes
-  if is_keyword word.0 then None else Some word
+-- the integer that an expression is
+abbrev pub integer_at : Form-F Plain (Form Plain) (Expr Plain) → Option ℤ
+integer_at (Form-F.Leaf (leaves.Int n)) = Some n
+integer_at _ = None
 
-abbrev pub after_symbol : ℕ → List ℕ → Option (List ℕ)
-after_symbol symbol [] = None
-after_symbol symbol (b ∷ rest) = if b == symbol then Some rest else None
+abbrev pub integer_of : Expr Plain → Option ℤ
+integer_of e = integer_at (out-Form Plain e.form)
 
--- what follows this symbol
-unfoldable pub symbol_at : ℕ → List ℕ → Option (List ℕ)
-symbol_at symbol bytes = after_symbol symbol (behind is_blank bytes)
+-- `K fby Y`
+abbrev pub delay_at : Form-F Plain (Form Plain) (Expr Plain) → Option Delay
+delay_at (Form-F.Fby a b) = do
+  first ← integer_of a
+  delayed ← variable_of b
+  Some (record { first = first; delayed = delayed })
+delay_at _ = None
 
--- a number of 1 to 18 digits, and what follows it
-unfoldable pub number_at : List ℕ → Option (ℤ × List ℕ)
-number_at bytes = let text = behind is_blank bytes in
-    if nat_le (length (front is_digit text)) 18 then option_map (λ n. (n, behind is_digit text)) (int_of (front is_digit text)) else None
+abbrev pub delay_of : Expr Plain → Option Delay
+delay_of e = delay_at (out-Form Plain e.form)
 
--- `let node NAME PARAM = RESULT where rec`: the three names, and what follows
-pub record Header : Type 0 where
-  pub name : List ℕ
-  pub param : List ℕ
-  pub result : List ℕ
-  pub rest : List ℕ
+-- `X + (K fby Y)`
+abbrev pub addition_of_two : List (Expr Plain) → Option Addition
+addition_of_two (a ∷ b ∷ []) = do
+  added ← variable_of a
+  delay ← delay_of b
+  Some (record { added = added; delay = delay })
+addition_of_two _ = None
 
-unfoldable pub header_at : List ℕ → Option Header
-header_at bytes = do
-  let_rest ← keyword_at (codes "let") bytes
-  node_rest ← keyword_at (codes "node") let_rest
-  name ← name_at node_rest
-  param ← name_at name.1
-  equal_rest ← symbol_at 61 param.1
-  result ← name_at equal_rest
-  where_rest ← keyword_at (codes "where") result.1
-  rest ← keyword_at (codes "rec") where_rest
-  Some (record { name = name.0; param = param.0; result = result.0; rest = rest })
+abbrev pub addition_at : Form-F Plain (Form Plain) (Expr Plain) → Option Addition
+addition_at (Form-F.Op ops.Add operands) = addition_of_two operands
+addition_at _ = None
 
--- `S = X + (K fby Y)`: its three names and its number, and what follows
-pub record SumEquation : Type 0 where
-  pub sum : List ℕ
-  pub added : List ℕ
-  pub first : ℤ
-  pub delayed : List ℕ
-  pub rest : List ℕ
+abbrev pub addition_of : Expr Plain → Option Addition
+addition_of e = addition_at (out-Form Plain e.form)
 
--- `(K fby Y)`
-unfoldable pub delay_at : List ℕ → Option (ℤ × List ℕ × List ℕ)
-delay_at bytes = do
-  inner ← symbol_at 40 bytes
-  first ← number_at inner
-  fby_rest ← keyword_at (codes "fby") first.1
-  delayed ← name_at fby_rest
-  rest ← symbol_at 41 delayed.1
-  Some (first.0, delayed.0, rest)
+-- the name that a pattern is
+abbrev pub name_at : Pat-F Pat → Option Name
+name_at (Pat-F.Var name) = Some name
+name_at _ = None
 
-unfoldable pub equation_at : List ℕ → Option SumEquation
-equation_at bytes = do
-  sum ← name_at bytes
-  equal_rest ← symbol_at 61 sum.1
-  added ← name_at equal_rest
-  plus_rest ← symbol_at 43 added.1
-  delay ← delay_at plus_rest
-  Some (record { sum = sum.0; added = added.0; first = delay.0; delayed = delay.1; rest = delay.2 })
+abbrev pub name_of : Pat → Option Name
+name_of pat = name_at (out-Pat pat)
 
 -- which of the two streams a name means
-unfoldable pub stream_of : List ℕ → List ℕ → List ℕ → Option Stream
-stream_of param sum name = if bytes_eq name param then Some Param else if bytes_eq name sum then Some Sum else None
-
--- the name of the node, and its body
-pub record SumFile : Type 0 where
-  pub name : List ℕ
-  pub body : RunningSum
+abbrev pub stream_of : Name → Name → Name → Option Stream
+stream_of param sum name = if is_name name param then Some Param else (if is_name name sum then Some Sum else None)
 
 -- the body where the names are as they are to be
-unfoldable pub body_of : List ℕ → List ℕ → SumEquation → Option RunningSum
-body_of param result equation =
-    if bytes_eq equation.sum param || not (bytes_eq equation.added param) then None else do
-      delayed ← stream_of param equation.sum equation.delayed
-      shown ← stream_of param equation.sum result
-      Some (record { first = equation.first; delayed = delayed; result = shown })
+abbrev pub body_of : Name → Name → Name → Addition → Option RunningSum
+body_of param sum shown addition =
+    if is_name sum param || not (is_name addition.added param) then None else do
+      delayed ← stream_of param sum addition.delay.delayed
+      result ← stream_of param sum shown
+      Some (record { first = addition.delay.first; delayed = delayed; result = result })
 
-abbrev pub is_empty : List ℕ → Bool
-is_empty [] = true
-is_empty (b ∷ bytes) = false
+-- `S = X + (K fby Y)`, after the parameter and the result
+abbrev pub equation_at : Name → Name → Equation-F Plain (Equation Plain) (Arm Plain) (Guard Plain) (Handler Plain) (State Plain) (Test Plain) → Option RunningSum
+equation_at param shown (Equation-F.Plain pat e) = do
+  sum ← name_of pat
+  addition ← addition_of e
+  body_of param sum shown addition
+equation_at param shown _ = None
 
--- the file that the bytes spell, if they are of the form
-unfoldable pub file_of : List ℕ → Option SumFile
-file_of bytes = do
-  header ← header_at bytes
-  equation ← equation_at header.rest
-  body ← body_of header.param header.result equation
-  if is_empty (behind is_blank equation.rest) then Some (record { name = header.name; body = body }) else None
+abbrev pub only_equation : Name → Name → List (Equation Plain) → Option RunningSum
+only_equation param shown (e ∷ []) = equation_at param shown (out-Equation Plain e)
+only_equation param shown _ = None
+
+abbrev pub only_param : List Pat → Option Name
+only_param (pat ∷ []) = name_of pat
+only_param _ = None
+
+abbrev pub node_of : Name → List Pat → BodyOf Plain → Option SumNode
+node_of name params body = do
+  param ← only_param params
+  shown ← variable_of body.result
+  sum ← only_equation param shown body.eqs
+  Some (record { name = name; body = sum })
+
+abbrev pub definition_of : DefOf Plain → Option SumNode
+definition_of (defs.Let line node name params marks notes body) = if node then node_of name params body else None
+definition_of (defs.Cases line name cases) = None
+
+-- the node, where the file is one definition of the form
+abbrev pub file_of : List (DefOf Plain) → Option SumNode
+file_of (def ∷ []) = definition_of def
+file_of _ = None

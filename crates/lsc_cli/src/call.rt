@@ -1,18 +1,24 @@
-ghost use Rattle.std.specs.Prelude.{◌≡◌, ◌≢◌, ◌≤◌, ◌↔◌, ◌⊎◌, IfSome, IsNone};
+ghost use Rattle.std.specs.Prelude.{◌≡◌, ◌≢◌, ◌≤◌, ◌↔◌, ◌⊎◌, ◌++◌, codes, decimal, length, true, IfSome, IsNone};
 ghost use Rattle.ls_base.specs.Outside.{Rose};
+ghost use Rattle.ls_lexer.specs.declared.fault.LexFault.{LexFault};
 ghost use Rattle.kahn_model.specs.RunText.{AtBadLine};
+ghost use Rattle.line_io.specs.Fields.{is_named};
 ghost use Rattle.lsc_cli.specs.Drive.{IsRead, status_at, stop_of};
-ghost use Rattle.lsc_cli.specs.Outcome.{Comes, OnRun, closing, most_lines, outcome_at, refusal, run_outcome, start_node, start_of, closing_of};
+ghost use Rattle.lsc_cli.specs.Judged.{ComesFrom, IsJudged};
+ghost use Rattle.lsc_cli.specs.Outcome.{Comes, IsTokensStart, at_line, closing, closing_of, is_about_file, lex_text, most_lines, refusal, run_outcome, start_node, syntax_line, syntax_text};
 ghost use Rattle.lsc_cli.specs.SumForm.{file_of};
 ghost use Rattle.lsc_cli.specs.Words.{command_of, texts_of};
 
 use crate::exchange::Exchange;
-use crate::form::sum_file;
+use crate::form::sum_of;
 use crate::lines::{DriveEnd, drive};
 use crate::status::Status;
 use arrayvec::ArrayVec;
 use kahn_model::RunningSum;
-use ls_base::{Failed, LoadFault, Sink, Source, Texts, write_all};
+use ls_ast::File;
+use ls_base::{Failed, Line, LoadFault, Name, Names, Sink, Source, Texts, write_all};
+use ls_lexer::{LexFault, Tokens, lex};
+use ls_parser::{SyntaxFault, parse};
 use std::alloc::Global;
 use step_runner::Machine;
 
@@ -31,19 +37,14 @@ pub fn lsc<T: Texts, S: Source, K: Sink>(
     out: &mut K,
 ) -> Status
     ensures usage { (result ≡ Status.Usage) ↔ IsNone (command_of (texts_of words.now.items)) }
-    ensures outcome { IfSome (command_of (texts_of words.now.items)) (λ command.
+    ensures judged { is_about_file result ≡ true → IfSome (command_of (texts_of words.now.items)) (λ command.
         IfSome (T.told texts.old command.file) (λ file.
-        IfSome (outcome_at (start_of command.node file) (S.left input.old)) (λ outcome.
-        Comes outcome result (K.written out.old) (K.written out.new)))) }
+        IsJudged command.node file (S.left input.old) (S.left input.new) result (K.written out.old) (K.written out.new))) }
 
-    // A fault of the outside has its cause there. Where a read failed, the lines that were read are
-    // answered.
+    // A fault of the outside has its cause there.
     ensures unloaded { result ≡ Status.Unloaded → IfSome (command_of (texts_of words.now.items)) (λ command.
         Rose (T.count texts.old command.file) (T.count texts.new command.file)) }
     ensures read_fault { result ≡ Status.ReadFault → Rose (S.count input.old) (S.count input.new) }
-    ensures read { result ≡ Status.ReadFault → IfSome (command_of (texts_of words.now.items)) (λ command.
-        IfSome (T.told texts.old command.file) (λ file. OnRun (start_of command.node file) (λ body.
-        IsRead body most_lines (S.left input.old) (S.left input.new) (K.written out.old) (K.written out.new)))) }
     ensures write_fault { result ≡ Status.WriteFault → Rose (K.count out.old) (K.count out.new) }
     ensures no_memory { result ≡ Status.NoMemory → (input.new ≡ input.old) × (out.new ≡ out.old) }
 {
@@ -63,11 +64,8 @@ fn run<T: Texts, S: Source, K: Sink>(
     input: &mut S,
     out: &mut K,
 ) -> Status
-    ensures outcome { IfSome (T.told texts.old file.now) (λ bytes.
-        IfSome (outcome_at (start_of node.now bytes) (S.left input.old)) (λ outcome.
-        Comes outcome result (K.written out.old) (K.written out.new))) }
-    ensures read { result ≡ Status.ReadFault → IfSome (T.told texts.old file.now) (λ bytes. OnRun (start_of node.now bytes) (λ body.
-        IsRead body most_lines (S.left input.old) (S.left input.new) (K.written out.old) (K.written out.new))) }
+    ensures judged { is_about_file result ≡ true → IfSome (T.told texts.old file.now) (λ bytes.
+        IsJudged node.now bytes (S.left input.old) (S.left input.new) result (K.written out.old) (K.written out.new)) }
     ensures usage { result ≢ Status.Usage }
     ensures unloaded { result ≡ Status.Unloaded → Rose (T.count texts.old file.now) (T.count texts.new file.now) }
     ensures read_fault { result ≡ Status.ReadFault → Rose (S.count input.old) (S.count input.new) }
@@ -83,7 +81,7 @@ fn run<T: Texts, S: Source, K: Sink>(
     }
 }
 
-/// Runs a node of a file.
+/// Runs a node of a file of this text.
 fn run_text<S: Source, K: Sink>(
     alloc: Global,
     text: &[u8],
@@ -91,26 +89,141 @@ fn run_text<S: Source, K: Sink>(
     input: &mut S,
     out: &mut K,
 ) -> Status
-    ensures outcome { IfSome (outcome_at (start_node node.now (file_of text.now)) (S.left input.old)) (λ outcome.
-        Comes outcome result (K.written out.old) (K.written out.new)) }
-    ensures read { result ≡ Status.ReadFault → OnRun (start_node node.now (file_of text.now)) (λ body.
-        IsRead body most_lines (S.left input.old) (S.left input.new) (K.written out.old) (K.written out.new)) }
+    requires { length text.now ≤ 1048576 }
+    ensures judged { is_about_file result ≡ true → IsJudged node.now text.now (S.left input.old) (S.left input.new) result (K.written out.old) (K.written out.new) }
     ensures usage { result ≢ Status.Usage }
     ensures unloaded { result ≢ Status.Unloaded }
     ensures read_fault { result ≡ Status.ReadFault → Rose (S.count input.old) (S.count input.new) }
     ensures write_fault { result ≡ Status.WriteFault → Rose (K.count out.old) (K.count out.new) }
     ensures no_memory { result ≡ Status.NoMemory → (input.new ≡ input.old) × (out.new ≡ out.old) }
 {
-    match sum_file(text) {
+    match lex(alloc, text) {
+        Ok(tokens) => run_tokens(alloc, &tokens, node, input, out),
+        Err(LexFault::NoMemory) => Status::NoMemory,
+        Err(fault) => refuse_tokens(fault, out),
+    }
+}
+
+/// Runs a node of a file of these tokens.
+fn run_tokens<S: Source, K: Sink>(
+    alloc: Global,
+    tokens: &Tokens,
+    node: &str,
+    input: &mut S,
+    out: &mut K,
+) -> Status
+    ensures judged { is_about_file result ≡ true → ComesFrom (IsTokensStart node.now tokens.now) (S.left input.old) (S.left input.new) result (K.written out.old) (K.written out.new) }
+    ensures usage { result ≢ Status.Usage }
+    ensures unloaded { result ≢ Status.Unloaded }
+    ensures read_fault { result ≡ Status.ReadFault → Rose (S.count input.old) (S.count input.new) }
+    ensures write_fault { result ≡ Status.WriteFault → Rose (K.count out.old) (K.count out.new) }
+    ensures no_memory { result ≡ Status.NoMemory → (input.new ≡ input.old) × (out.new ≡ out.old) }
+{
+    match parse(alloc, tokens) {
+        Ok(file) => run_file(alloc, &file, node, input, out),
+        Err(fault) => match line_of(fault) {
+            Some(line) => refuse_syntax(line, out),
+            None => Status::NoMemory,
+        },
+    }
+}
+
+/// The line of a syntax fault; want of memory has none.
+fn line_of(fault: SyntaxFault) -> Option<Line>
+    ensures { result ≡ syntax_line fault }
+{
+    match fault {
+        SyntaxFault::Syntax(line) => Some(line),
+        SyntaxFault::NoMemory => None,
+    }
+}
+
+/// Runs a node of a file.
+fn run_file<S: Source, K: Sink>(
+    alloc: Global,
+    file: &File,
+    node: &str,
+    input: &mut S,
+    out: &mut K,
+) -> Status
+    ensures judged { is_about_file result ≡ true → ComesFrom (λ start. start ≡ start_node node.now file.now.names (file_of file.now.defs)) (S.left input.old) (S.left input.new) result (K.written out.old) (K.written out.new) }
+    ensures usage { result ≢ Status.Usage }
+    ensures unloaded { result ≢ Status.Unloaded }
+    ensures read_fault { result ≡ Status.ReadFault → Rose (S.count input.old) (S.count input.new) }
+    ensures write_fault { result ≡ Status.WriteFault → Rose (K.count out.old) (K.count out.new) }
+    ensures no_memory { result ≡ Status.NoMemory → (input.new ≡ input.old) × (out.new ≡ out.old) }
+{
+    match sum_of(file.defs.as_slice()) {
         None => refuse(b"refused: form not built\n", out),
-        Some(file) => {
-            if file.name == node.as_bytes() {
-                run_body(alloc, file.body, input, out)
+        Some(sum) => {
+            if has_spelling(&file.names, sum.name, node) {
+                run_body(alloc, sum.body, input, out)
             } else {
                 refuse(b"refused: no such node\n", out)
             }
         }
     }
+}
+
+/// Whether a name is spelled as a text.
+fn has_spelling(names: &Names, name: Name, text: &str) -> bool
+    ensures { result ≡ is_named names.now text.now name }
+{
+    match names.spell(name) {
+        Some(spelling) => spelling.as_bytes() == text.as_bytes(),
+        None => false,
+    }
+}
+
+/// Writes the refusal of a file that is no row of tokens.
+fn refuse_tokens<K: Sink>(fault: LexFault, out: &mut K) -> Status
+    requires { fault ≢ LexFault.NoMemory }
+    ensures outcome { Comes (refusal (lex_text fault)) result (K.written out.old) (K.written out.new) }
+    ensures status { (result ≡ Status.Refused) ⊎ (result ≡ Status.WriteFault) }
+    ensures write_fault { result ≡ Status.WriteFault → Rose (K.count out.old) (K.count out.new) }
+{
+    match fault {
+        LexFault::NotUtf8(line) => refuse_at(b"refused: not UTF-8 at line ", line, out),
+        LexFault::Bad(line) => refuse_at(b"refused: bad character at line ", line, out),
+        LexFault::LongText(line) => refuse_at(b"refused: text too long at line ", line, out),
+        LexFault::WideInt(line) => refuse_at(b"refused: integer too wide at line ", line, out),
+        LexFault::OpenComment(line) => {
+            refuse_at(b"refused: comment not closed at line ", line, out)
+        }
+        LexFault::NoMemory => unreachable!(),
+    }
+}
+
+/// Writes the refusal of tokens that are no file.
+fn refuse_syntax<K: Sink>(line: Line, out: &mut K) -> Status
+    ensures outcome { Comes (refusal (syntax_text line)) result (K.written out.old) (K.written out.new) }
+    ensures status { (result ≡ Status.Refused) ⊎ (result ≡ Status.WriteFault) }
+    ensures write_fault { result ≡ Status.WriteFault → Rose (K.count out.old) (K.count out.new) }
+{
+    refuse_at(b"refused: syntax at line ", line, out)
+}
+
+/// Writes the line of a refusal that names a line of the file.
+fn refuse_at<K: Sink>(text: &[u8], line: Line, out: &mut K) -> Status
+    requires { length text.now ≤ 40 }
+    ensures outcome { Comes (refusal (at_line text.now line)) result (K.written out.old) (K.written out.new) }
+    ensures status { (result ≡ Status.Refused) ⊎ (result ≡ Status.WriteFault) }
+    ensures write_fault { result ≡ Status.WriteFault → Rose (K.count out.old) (K.count out.new) }
+{
+    refuse(numbered(text, line.0).as_slice(), out)
+}
+
+/// A text, a number and a newline.
+fn numbered(text: &[u8], number: u32) -> ArrayVec<u8, 64>
+    requires { length text.now ≤ 40 }
+    ensures { result.items ≡ text.now ++ decimal number ++ codes "\n" }
+{
+    let mut digits = itoa::Buffer::new();
+    let mut line = ArrayVec::new();
+    let _ = line.try_extend_from_slice(text);
+    let _ = line.try_extend_from_slice(digits.format(number).as_bytes());
+    line.push(b'\n');
+    line
 }
 
 /// Writes the line of a refusal.
@@ -172,20 +285,8 @@ fn bad_line<K: Sink>(line: u32, out: &mut K) -> Status
     ensures write_fault { result ≡ Status.WriteFault → Rose (K.count out.old) (K.count out.new) }
     ensures counted { K.count out.old ≤ K.count out.new }
 {
-    match write_all(out, bad_line_text(line).as_slice()) {
+    match write_all(out, numbered(b"bad line ", line).as_slice()) {
         Ok(()) => Status::BadLine,
         Err(Failed) => Status::WriteFault,
     }
-}
-
-/// `bad line K`
-fn bad_line_text(line: u32) -> ArrayVec<u8, 32>
-    ensures { result.items ≡ closing_of (AtBadLine line) }
-{
-    let mut number = itoa::Buffer::new();
-    let mut text = ArrayVec::new();
-    let _ = text.try_extend_from_slice(b"bad line ");
-    let _ = text.try_extend_from_slice(number.format(line).as_bytes());
-    text.push(b'\n');
-    text
 }

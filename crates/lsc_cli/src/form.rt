@@ -1,203 +1,104 @@
-ghost use Rattle.std.specs.Prelude.{◌≡◌, length};
-ghost use Rattle.std.specs.Option.{option_map};
-ghost use Rattle.lsc_cli.specs.Bytes as bytes_of;
+ghost use Rattle.std.specs.Prelude.{◌≡◌};
+ghost use Rattle.ls_ast.specs.declared.tree.Equation.{out-Equation};
+ghost use Rattle.ls_ast.specs.declared.tree.Plain.{Plain};
 ghost use Rattle.lsc_cli.specs.SumForm as spec;
-ghost use Rattle.lsc_cli.specs.FormViews.{header_view, equation_view, file_view};
 
 use kahn_model::{RunningSum, Stream};
-use ls_value::read_int;
+use ls_ast::{BodyOf, Def, DefOf, Equation, Expr, Form, Pat, Plain};
+use ls_base::{List, Name};
+use ls_ops::Op;
+use ls_value::Leaf;
 
-/// A class of bytes.
-#[derive(Clone, Copy, Debug, PartialEq, Eq)]
-enum Class {
-    Blank,
-    WordByte,
-    Digit,
-}
-
-impl Class {
-    fn has(self, byte: u8) -> bool
-        ensures { result ≡ bytes_of.is_in self byte }
-    {
-        match self {
-            Class::Blank => byte == b' ' || byte == b'\t' || byte == b'\r' || byte == b'\n',
-            Class::WordByte => byte >= b'a' && byte <= b'z' || byte >= b'0' && byte <= b'9',
-            Class::Digit => byte >= b'0' && byte <= b'9',
-        }
-    }
-}
-
-/// The longest front of bytes of a class, and what follows it.
-fn split(class: Class, bytes: &[u8]) -> (&[u8], &[u8])
-    ensures front { result.0.now ≡ bytes_of.front (bytes_of.is_in class) bytes.now }
-    ensures behind { result.1.now ≡ bytes_of.behind (bytes_of.is_in class) bytes.now }
-{
-    for (i, byte) in bytes.iter().enumerate() {
-        if !class.has(*byte) {
-            return (&bytes[..i], &bytes[i..]);
-        }
-    }
-    (bytes, &bytes[bytes.len()..])
-}
-
-/// The word after the blanks, and what follows it.
-#[tactic(auto, unfolding(crate::specs::SumForm::word_at))]
-fn word(bytes: &[u8]) -> Option<(&[u8], &[u8])>
-    ensures { option_map (λ r. (r.0.now, r.1.now)) result ≡ spec.word_at bytes.now }
-{
-    let (_, text) = split(Class::Blank, bytes);
-    match text {
-        [b'a'..=b'z', ..] => Some(split(Class::WordByte, text)),
-        _ => None,
-    }
-}
-
-/// What follows this word.
-#[tactic(auto, unfolding(crate::specs::SumForm::keyword_at))]
-fn keyword<'a>(keyword: &[u8], bytes: &'a [u8]) -> Option<&'a [u8]>
-    ensures { option_map (λ r. r.now) result ≡ spec.keyword_at keyword.now bytes.now }
-{
-    let (word, rest) = word(bytes)?;
-    if word == keyword { Some(rest) } else { None }
-}
-
-fn is_keyword(word: &[u8]) -> bool
-    ensures { result ≡ spec.is_keyword word.now }
-{
-    word == b"let".as_slice()
-        || word == b"node".as_slice()
-        || word == b"where".as_slice()
-        || word == b"rec".as_slice()
-        || word == b"and".as_slice()
-        || word == b"fby".as_slice()
-}
-
-/// A word that is no keyword, and what follows it.
-#[tactic(auto, unfolding(crate::specs::SumForm::name_at))]
-fn name(bytes: &[u8]) -> Option<(&[u8], &[u8])>
-    ensures { option_map (λ r. (r.0.now, r.1.now)) result ≡ spec.name_at bytes.now }
-{
-    let found = word(bytes)?;
-    if is_keyword(found.0) {
-        None
-    } else {
-        Some(found)
-    }
-}
-
-/// What follows this symbol.
-#[tactic(auto, unfolding(crate::specs::SumForm::symbol_at))]
-fn symbol(symbol: u8, bytes: &[u8]) -> Option<&[u8]>
-    ensures { option_map (λ r. r.now) result ≡ spec.symbol_at symbol bytes.now }
-{
-    let (_, text) = split(Class::Blank, bytes);
-    match text {
-        [byte, rest @ ..] if *byte == symbol => Some(rest),
-        _ => None,
-    }
-}
-
-/// A number of 1 to 18 digits, and what follows it.
-#[tactic(auto, unfolding(crate::specs::SumForm::number_at))]
-fn number(bytes: &[u8]) -> Option<(i64, &[u8])>
-    ensures { option_map (λ r. (r.0, r.1.now)) result ≡ spec.number_at bytes.now }
-{
-    let (_, text) = split(Class::Blank, bytes);
-    let (digits, rest) = split(Class::Digit, text);
-    if digits.len() > 18 {
-        return None;
-    }
-    match int_of(digits) {
-        Some(value) => Some((value, rest)),
-        None => None,
-    }
-}
-
-/// The integer that the bytes spell, if they spell one.
-pub fn int_of(bytes: &[u8]) -> Option<i64>
-    ensures { result ≡ bytes_of.int_of bytes.now }
-{
-    read_int(bytes)
-}
-
-/// `let node NAME PARAM = RESULT where rec`
-#[derive(Drop)]
-struct Header<'a> {
-    name: &'a [u8],
-    param: &'a [u8],
-    result: &'a [u8],
-    rest: &'a [u8],
-}
-
-#[tactic(auto, unfolding(crate::specs::SumForm::header_at))]
-fn read_header(bytes: &[u8]) -> Option<Header<'_>>
-    ensures { option_map header_view result ≡ spec.header_at bytes.now }
-{
-    let rest = keyword(b"let", bytes)?;
-    let rest = keyword(b"node", rest)?;
-    let (node, rest) = name(rest)?;
-    let (param, rest) = name(rest)?;
-    let rest = symbol(b'=', rest)?;
-    let (shown, rest) = name(rest)?;
-    let rest = keyword(b"where", rest)?;
-    let rest = keyword(b"rec", rest)?;
-    Some(Header {
-        name: node,
-        param,
-        result: shown,
-        rest,
-    })
-}
-
-/// `S = X + (K fby Y)`
-#[derive(Drop)]
-struct SumEquation<'a> {
-    sum: &'a [u8],
-    added: &'a [u8],
+/// `K fby Y`
+#[derive(Clone, Copy)]
+struct Delay {
     first: i64,
-    delayed: &'a [u8],
-    rest: &'a [u8],
+    delayed: Name,
 }
 
-/// `(K fby Y)`
-#[tactic(auto, unfolding(crate::specs::SumForm::delay_at))]
-fn delay(bytes: &[u8]) -> Option<(i64, &[u8], &[u8])>
-    ensures { option_map (λ r. (r.0, r.1.now, r.2.now)) result ≡ spec.delay_at bytes.now }
-{
-    let rest = symbol(b'(', bytes)?;
-    let (first, rest) = number(rest)?;
-    let rest = keyword(b"fby", rest)?;
-    let (delayed, rest) = name(rest)?;
-    let rest = symbol(b')', rest)?;
-    Some((first, delayed, rest))
+/// `X + (K fby Y)`
+#[derive(Clone, Copy)]
+struct Addition {
+    added: Name,
+    delay: Delay,
 }
 
-#[tactic(auto, unfolding(crate::specs::SumForm::equation_at))]
-fn read_equation(bytes: &[u8]) -> Option<SumEquation<'_>>
-    ensures { option_map equation_view result ≡ spec.equation_at bytes.now }
+/// A node of the one form that is run.
+#[derive(Clone, Copy)]
+pub(crate) struct SumNode {
+    pub name: Name,
+    pub body: RunningSum,
+}
+
+fn variable(e: &Expr<Plain>) -> Option<Name>
+    ensures { result ≡ spec.variable_of e.now }
 {
-    let (sum, rest) = name(bytes)?;
-    let rest = symbol(b'=', rest)?;
-    let (added, rest) = name(rest)?;
-    let rest = symbol(b'+', rest)?;
-    let (first, delayed, rest) = delay(rest)?;
-    Some(SumEquation {
-        sum,
-        added,
-        first,
-        delayed,
-        rest,
-    })
+    match e.form.get() {
+        Form::Var(name) => Some(*name),
+        _ => None,
+    }
+}
+
+fn integer(e: &Expr<Plain>) -> Option<i64>
+    ensures { result ≡ spec.integer_of e.now }
+{
+    match e.form.get() {
+        Form::Leaf(Leaf::Int(value)) => Some(*value),
+        _ => None,
+    }
+}
+
+fn delay_of(e: &Expr<Plain>) -> Option<Delay>
+    ensures { result ≡ spec.delay_of e.now }
+{
+    match e.form.get() {
+        Form::Fby(a, b) => {
+            let first = integer(a)?;
+            let delayed = variable(b)?;
+            Some(Delay { first, delayed })
+        }
+        _ => None,
+    }
+}
+
+fn addition_of(e: &Expr<Plain>) -> Option<Addition>
+    ensures { result ≡ spec.addition_of e.now }
+{
+    match e.form.get() {
+        Form::Op(Op::Add, operands) => addition_of_two(operands.as_slice()),
+        _ => None,
+    }
+}
+
+fn addition_of_two(operands: &[Expr<Plain>]) -> Option<Addition>
+    ensures { result ≡ spec.addition_of_two operands.now }
+{
+    match operands {
+        [a, b] => {
+            let added = variable(a)?;
+            let delay = delay_of(b)?;
+            Some(Addition { added, delay })
+        }
+        _ => None,
+    }
+}
+
+fn name_of(pat: &Pat) -> Option<Name>
+    ensures { result ≡ spec.name_of pat.now }
+{
+    match pat {
+        Pat::Var(name) => Some(*name),
+        _ => None,
+    }
 }
 
 /// Which of the two streams a name means.
-#[tactic(auto, unfolding(crate::specs::SumForm::stream_of))]
-fn stream_of(param: &[u8], sum: &[u8], name: &[u8]) -> Option<Stream>
-    ensures { result ≡ spec.stream_of param.now sum.now name.now }
+fn stream_of(param: Name, sum: Name, name: Name) -> Option<Stream>
+    ensures { result ≡ spec.stream_of param sum name }
 {
-    if name == param {
+    if name.0 == param.0 {
         Some(Stream::Param)
-    } else if name == sum {
+    } else if name.0 == sum.0 {
         Some(Stream::Sum)
     } else {
         None
@@ -205,43 +106,83 @@ fn stream_of(param: &[u8], sum: &[u8], name: &[u8]) -> Option<Stream>
 }
 
 /// The body where the names are as they are to be.
-#[tactic(auto, unfolding(crate::specs::SumForm::body_of))]
-fn body_of(param: &[u8], result_name: &[u8], equation: &SumEquation<'_>) -> Option<RunningSum>
-    ensures { result ≡ spec.body_of param.now result_name.now (equation_view equation.now) }
+fn body_of(param: Name, sum: Name, shown: Name, addition: Addition) -> Option<RunningSum>
+    ensures { result ≡ spec.body_of param sum shown addition }
 {
-    if equation.sum == param || equation.added != param {
+    if sum.0 == param.0 || addition.added.0 != param.0 {
         return None;
     }
-    let delayed = stream_of(param, equation.sum, equation.delayed)?;
-    let shown = stream_of(param, equation.sum, result_name)?;
+    let delayed = stream_of(param, sum, addition.delay.delayed)?;
+    let result_stream = stream_of(param, sum, shown)?;
     Some(RunningSum {
-        first: equation.first,
+        first: addition.delay.first,
         delayed,
-        result: shown,
+        result: result_stream,
     })
 }
 
-/// A file of the one form that is run.
-#[derive(Drop)]
-pub struct SumFile<'a> {
-    pub name: &'a [u8],
-    pub body: RunningSum,
+/// `S = X + (K fby Y)`, after the parameter and the result.
+fn only_equation(param: Name, shown: Name, eqs: &[Equation<Plain>]) -> Option<RunningSum>
+    ensures { result ≡ spec.only_equation param shown eqs.now }
+{
+    match eqs {
+        [equation] => equation_of(param, shown, equation),
+        _ => None,
+    }
 }
 
-/// The file that the bytes spell, if they are of the form.
-#[tactic(auto, unfolding(crate::specs::SumForm::file_of))]
-pub fn sum_file(bytes: &[u8]) -> Option<SumFile<'_>>
-    ensures { option_map file_view result ≡ spec.file_of bytes.now }
+fn equation_of(param: Name, shown: Name, equation: &Equation<Plain>) -> Option<RunningSum>
+    ensures { result ≡ spec.equation_at param shown (out-Equation Plain equation.now) }
 {
-    let header = read_header(bytes)?;
-    let equation = read_equation(header.rest)?;
-    let body = body_of(header.param, header.result, &equation)?;
-    let (_, rest) = split(Class::Blank, equation.rest);
-    match rest {
-        [] => Some(SumFile {
-            name: header.name,
+    match equation {
+        Equation::Plain(pat, e) => {
+            let sum = name_of(pat)?;
+            let addition = addition_of(e)?;
+            body_of(param, sum, shown, addition)
+        }
+        _ => None,
+    }
+}
+
+fn only_param(params: &[Pat]) -> Option<Name>
+    ensures { result ≡ spec.only_param params.now }
+{
+    match params {
+        [pat] => name_of(pat),
+        _ => None,
+    }
+}
+
+fn node_of(name: Name, params: &List<Pat>, body: &BodyOf<Plain>) -> Option<SumNode>
+    ensures { result ≡ spec.node_of name params.now body.now }
+{
+    let param = only_param(params.as_slice())?;
+    let shown = variable(&body.result)?;
+    let sum = only_equation(param, shown, body.eqs.as_slice())?;
+    Some(SumNode { name, body: sum })
+}
+
+fn definition_of(def: &Def) -> Option<SumNode>
+    ensures { result ≡ spec.definition_of def.now }
+{
+    match def {
+        DefOf::Let {
+            node: true,
+            name,
+            params,
             body,
-        }),
+            ..
+        } => node_of(*name, params, body),
+        _ => None,
+    }
+}
+
+/// The node, where the file is one definition of the form.
+pub(crate) fn sum_of(defs: &[Def]) -> Option<SumNode>
+    ensures { result ≡ spec.file_of defs.now }
+{
+    match defs {
+        [def] => definition_of(def),
         _ => None,
     }
 }

@@ -1,4 +1,4 @@
--- Numbers in the file and in the input.
+-- What the test of an integer's text says.
 use Rattle.std.proofs.Common.{◌≡◌, ℕ, ◌<◌, ◌≤◌, ◌^◌, List, [], ◌∷◌, Option, Some, None, Bool, true, false, length, refl, sym, ◌∙◌, ap, arith}
 use Rattle.std.specs.Prelude.{ℤ, pos, negsuc, nat_le, nat_lt, FitsSigned, ◌&&◌, if◌then◌else◌}
 use Rattle.std.specs.Option.{option_map, SomeIff}
@@ -7,23 +7,8 @@ use Rattle.std.specs.List.{list_all}
 use Rattle.std.specs.Str.Parse.{AllDigits}
 use Rattle.std.proofs.lemmas.Bool.Decides.{nat_tests}
 use Rattle.ls_value.specs.Reading.{digits_part, int_value, IsIntText}
-use Rattle.lsc_cli.specs.Bytes.{is_blank, is_digit, front, behind, int_of, is_int_text, fits_64}
-use Rattle.kahn_model.specs.declared.running_sum.RunningSum.{RunningSum}
-use Rattle.lsc_cli.specs.SumForm.{Header, SumEquation, number_at, header_at, equation_at, body_of, file_of, is_empty}
+use Rattle.lsc_cli.specs.IntText.{int_of, is_int_text, fits_64}
 use mir.Syntax.{w64}
-
-abbrev number_of : Bool → Option ℤ → List ℕ → Option (ℤ × List ℕ)
-number_of short value rest = if short then option_map (λ n. (n, rest)) value else None
-
-short_enough : (n : ℕ) → n ≤ 18 → nat_le n 18 ≡ true
-short_enough n h = grind (arith, nat_tests)
-
--- a number of at most 18 digits is found
-pub number-found : (bytes digits rest : List ℕ) (value : Option ℤ) → digits ≡ front is_digit (behind is_blank bytes) → rest ≡ behind is_digit (behind is_blank bytes)
-    → length digits ≤ 18 → int_of digits ≡ value → number_at bytes ≡ option_map (λ n. (n, rest)) value
-unfolding number_at
-number-found bytes digits rest value d r short is =
-    (λ i. number_of (nat_le (length (sym d i)) 18) (int_of (sym d i)) (sym r i)) ∙ (λ i. number_of (short_enough (length digits) short i) (is i) rest)
 
 both : (a b : Bool) → a ≡ true → b ≡ true → (a && b) ≡ true
 both a b p q = (λ i. p i && q i)
@@ -79,14 +64,3 @@ by_test (Some x) false P v h to from = absurd (let e = to h.0 in cc)
 pub int_of-read : (bytes : List ℕ) (o : Option ℤ) → SomeIff o (IsIntText bytes) (int_value bytes) → o ≡ int_of bytes
 unfolding int_of
 int_of-read bytes o h = by_test o (is_int_text bytes) (IsIntText bytes) (int_value bytes) h (int_text bytes) (is_text bytes)
-
--- a file that goes on behind its equation is not of the form
-pub file-unended : (bytes : List ℕ) (h : Header) (e : SumEquation) (b : RunningSum) → header_at bytes ≡ Some h → equation_at h.rest ≡ Some e
-    → body_of h.param h.result e ≡ Some b → is_empty (behind is_blank e.rest) ≡ false → file_of bytes ≡ None
-unfolding file_of
-file-unended bytes h e b ish ise isb goes_on = rw ish (rw ise (rw isb (rw goes_on refl)))
-
--- what has a byte is not empty
-pub not_empty : (bytes : List ℕ) → 1 ≤ length bytes → is_empty bytes ≡ false
-not_empty [] h = absurd (omega arith)
-not_empty (b ∷ bytes) h = refl
