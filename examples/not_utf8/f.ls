@@ -1,0 +1,3 @@
+let f x = x
+let g x = "ÿ"
+(* a

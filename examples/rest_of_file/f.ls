@@ -1,0 +1,4 @@
+let f x = x
+let g x = x
+  + y)
+let h x = x
