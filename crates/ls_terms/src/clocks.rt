@@ -1,0 +1,141 @@
+//! The terms of clocks: clocks as types with abstract names (after Colaço and Pouzet 2003).
+
+use ls_base::{Boxed, List, NoMemory, NoteCopy};
+use std::alloc::Global;
+use term_unify::{Subst, Term};
+
+/// A clock. `On(clock, name, case)` is on where `clock` is on and the value under the name is
+/// that case; names and cases go by their numbers.
+#[derive(Debug, Drop)]
+pub enum ClockTerm {
+    Var(u32),
+    On(Boxed<ClockTerm>, u32, u32),
+    Pointwise,
+    Arrow(List<ClockTerm>, Boxed<ClockTerm>),
+}
+
+impl Term for ClockTerm {
+    ghost size = { ? };
+    ghost alike = { ? };
+    ghost kids = { ? };
+    ghost var_of = { ? };
+    ghost stands = { ? };
+    ghost apply = { ? };
+    ghost size_is = { ? };
+    ghost alike_self = { ? };
+    ghost alike_back = { ? };
+    ghost alike_along = { ? };
+    ghost alike_kids = { ? };
+    ghost alike_same = { ? };
+    ghost alike_var = { ? };
+    ghost alike_stands = { ? };
+    ghost var_same = { ? };
+    ghost var_kids = { ? };
+    ghost var_stands = { ? };
+    ghost apply_var = { ? };
+    ghost apply_alike = { ? };
+    ghost apply_kids = { ? };
+
+    fn as_var(&self) -> Option<u32> {
+        match self {
+            ClockTerm::Var(x) => Some(*x),
+            _ => None,
+        }
+    }
+
+    fn parts(&self) -> usize {
+        match self {
+            ClockTerm::On(_, _, _) => 1,
+            ClockTerm::Arrow(all, _) => all.len() + 1,
+            _ => 0,
+        }
+    }
+
+    fn part(&self, at: usize) -> &ClockTerm {
+        match self {
+            ClockTerm::On(of, _, _) => of.get(),
+            ClockTerm::Arrow(all, to) => match all.get(at) {
+                Some(t) => t,
+                None => to.get(),
+            },
+            _ => self,
+        }
+    }
+
+    fn same_head(&self, other: &ClockTerm) -> bool {
+        match (self, other) {
+            (ClockTerm::Var(x), ClockTerm::Var(y)) => x == y,
+            (ClockTerm::On(_, m, k), ClockTerm::On(_, n, l)) => m == n && k == l,
+            (ClockTerm::Pointwise, ClockTerm::Pointwise) => true,
+            (ClockTerm::Arrow(a, _), ClockTerm::Arrow(b, _)) => a.len() == b.len(),
+            _ => false,
+        }
+    }
+
+    fn may_stand(&self) -> bool {
+        matches!(self, ClockTerm::Var(_) | ClockTerm::On(..))
+    }
+
+    fn put(&self, alloc: Global, by: &Subst<ClockTerm>) -> Result<ClockTerm, NoMemory> {
+        put(self, alloc, by)
+    }
+}
+
+#[cycle(put)]
+fn put_all(
+    all: &[ClockTerm],
+    alloc: Global,
+    by: &Subst<ClockTerm>,
+) -> Result<List<ClockTerm>, NoMemory> {
+    let mut done = List::new(alloc);
+    for t in all {
+        done.push(put(t, alloc, by)?)?;
+    }
+    Ok(done)
+}
+
+#[cycle(put)]
+fn put(t: &ClockTerm, alloc: Global, by: &Subst<ClockTerm>) -> Result<ClockTerm, NoMemory> {
+    match t {
+        ClockTerm::Var(x) => match by.get(*x) {
+            Some(value) => value.copy(alloc),
+            None => Ok(ClockTerm::Var(*x)),
+        },
+        ClockTerm::On(of, name, case) => Ok(ClockTerm::On(
+            Boxed::new(alloc, put(of.get(), alloc, by)?)?,
+            *name,
+            *case,
+        )),
+        ClockTerm::Pointwise => Ok(ClockTerm::Pointwise),
+        ClockTerm::Arrow(all, to) => Ok(ClockTerm::Arrow(
+            put_all(all.as_slice(), alloc, by)?,
+            Boxed::new(alloc, put(to.get(), alloc, by)?)?,
+        )),
+    }
+}
+
+#[cycle(copy)]
+fn copy_all(all: &[ClockTerm], alloc: Global) -> Result<List<ClockTerm>, NoMemory> {
+    let mut done = List::new(alloc);
+    for t in all {
+        done.push(t.copy(alloc)?)?;
+    }
+    Ok(done)
+}
+
+impl NoteCopy for ClockTerm {
+    #[cycle(copy)]
+    fn copy(&self, alloc: Global) -> Result<ClockTerm, NoMemory> {
+        match self {
+            ClockTerm::Var(x) => Ok(ClockTerm::Var(*x)),
+            ClockTerm::On(of, name, case) => {
+                Ok(ClockTerm::On(Boxed::new(alloc, of.get().copy(alloc)?)?, *name, *case))
+            }
+            ClockTerm::Pointwise => Ok(ClockTerm::Pointwise),
+            ClockTerm::Arrow(all, to) => Ok(ClockTerm::Arrow(
+                copy_all(all.as_slice(), alloc)?,
+                Boxed::new(alloc, to.get().copy(alloc)?)?,
+            )),
+        }
+    }
+}
