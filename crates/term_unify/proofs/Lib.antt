@@ -1,3 +1,6 @@
 pub mod Lists
 pub mod Nodes
 pub mod Algebra
+pub mod Forest
+pub mod Closing
+pub mod Together

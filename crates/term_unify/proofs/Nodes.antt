@@ -4,7 +4,7 @@ use Rattle.std.specs.Option.{option_map}
 use Rattle.std.specs.BTreeMap.{is_at}
 use Rattle.std.specs.Ordering.{nat_cmp}
 use Rattle.std.specs.Prelude.{false}
-use Rattle.std.proofs.lemmas.Grind.{common_steps}
+use Rattle.std.proofs.lemmas.Grind.{common_steps, get_or_default_zero}
 use Rattle.std.proofs.Math.ListN.{get_or-append}
 use Rattle.std.proofs.lemmas.List.{map-append, length-map, get_or-append-add}
 use Rattle.std.proofs.lemmas.Option.{slice_get_within, get_or_from_slice_get, slice_get-map, slice_get-get_or}
@@ -82,6 +82,9 @@ module _ {T : Type 0} (A : Ghosts T) where
 pub node_at : {T : Type 0} (ts : List (Bor T)) (i : ℕ) (b : Bor T) → i < length ts → b ≡ get_or ts i b → slice_get (nodes ts) i ≡ Some b.now
 node_at {T} ts i b within is =
     slice_get-map (λ (t : Bor T). t.now) ts i ∙ ap (option_map (λ (t : Bor T). t.now)) (slice_get-get_or ts i b within ∙ ap Some (sym is))
+
+pub number_at : (xs : List ℕ) (i x : ℕ) → i < length xs → x ≡ get_or xs i x → x ≡ slice_index xs i
+number_at xs i x h e = e ∙ get_or_default_zero xs i x h
 
 pub keeps_more : {T : Type 0} (old ts us ks : List T) → Keeps old ts → us ≡ ts ++ ks → Keeps old us
 keeps_more old ts us ks was new i t e = ap (λ z. slice_get z i) new ∙ got_front ts ks i t (was i t e)

@@ -87,3 +87,50 @@ pub record IsForest {T : Type 0} (A : Ghosts T) (ts : List T) (links : List ℕ)
   pub all : length links ≡ length ts
   pub within : (i : ℕ) → i < length ts → slice_index links i < length ts
   pub down : (i : ℕ) → i < length ts → slice_index links i ≢ i → rank A ts (slice_index links i) < rank A ts i
+
+-- while classes are brought together: the links, the equations still to be looked at, and those that
+-- the work began with
+pub record IsClosing {T : Type 0} (A : Ghosts T) (ts : List T) (first : List ℕ) (goal : List (ℕ × ℕ)) (links : List ℕ) (pending : List (ℕ × ℕ)) : Type 0 where
+  pub forest : IsForest A ts links
+  pub within : AreWithin (length ts) pending
+  pub heads : (i : ℕ) (s : T) → slice_get ts i ≡ Some s → A.var_of s ≡ None →
+      (t : T) × (slice_get ts (slice_index links i) ≡ Some t) × (A.var_of t ≡ None) × (A.alike s t ≡ true)
+  pub parts : (f : ℕ → ℕ) → Follows f links → Solves f pending → (i n : ℕ) (s : T) → slice_get ts i ≡ Some s → A.var_of s ≡ None →
+      n < length (A.kids s) → f (slice_index first i + n) ≡ f (slice_index first (slice_index links i) + n)
+  pub sound : (by : ℕ → Option T) → Solves (value A ts by) goal → Follows (value A ts by) links × Solves (value A ts by) pending
+  pub complete : (f : ℕ → ℕ) → Follows f links → Solves f pending → Solves f goal
+
+-- as many pairs of nodes, one beside the other
+abbrev pub pair_up : ℕ → ℕ → ℕ → List (ℕ × ℕ)
+pair_up m n zero = []
+pair_up m n (suc k) = pair_up m n k ++ (m + k, n + k) ∷ []
+
+-- the nodes and parts of the first nodes that stand for their class
+abbrev pub live : {T : Type 0} → Ghosts T → List T → List ℕ → ℕ → ℕ
+live A ts links zero = 0
+live A ts links (suc n) = (if slice_index links n == n then 1 + option_map_or (λ t. length (A.kids t)) (slice_get ts n) 0 else 0) + live A ts links n
+
+-- how many steps are left at most
+abbrev pub work : {T : Type 0} → Ghosts T → List T → List ℕ → List (ℕ × ℕ) → ℕ
+work A ts links pending = length pending + live A ts links (length ts)
+
+-- each node with the one that stands for its class
+pub record AreLabels (links cls : List ℕ) : Type 0 where
+  pub all : length cls ≡ length links
+  pub leads : (i : ℕ) → i < length links → Leads links i (slice_index cls i)
+  pub root : (i : ℕ) → i < length links → slice_index links (slice_index cls i) ≡ slice_index cls i
+  pub within : (i : ℕ) → i < length links → slice_index cls i < length links
+
+-- classes of nodes: two terms of one class have one head, and their parts are in one class each
+pub record AreClasses {T : Type 0} (A : Ghosts T) (ts : List T) (first cls : List ℕ) : Type 0 where
+  pub all : length cls ≡ length ts
+  pub within : (i : ℕ) → i < length ts → slice_index cls i < length ts
+  pub root : (i : ℕ) → i < length ts → slice_index cls (slice_index cls i) ≡ slice_index cls i
+  pub heads : (i : ℕ) (s : T) → slice_get ts i ≡ Some s → A.var_of s ≡ None →
+      (t : T) × (slice_get ts (slice_index cls i) ≡ Some t) × (A.var_of t ≡ None) × (A.alike s t ≡ true)
+  pub parts : (i n : ℕ) (s : T) → slice_get ts i ≡ Some s → A.var_of s ≡ None → n < length (A.kids s) →
+      slice_index cls (slice_index first i + n) ≡ slice_index cls (slice_index first (slice_index cls i) + n)
+
+-- a substitution gives all nodes of a class one value
+abbrev pub Respects : {T : Type 0} → Ghosts T → List T → List ℕ → (ℕ → Option T) → Type 0
+Respects A ts cls by = (i : ℕ) → i < length ts → value A ts by i ≡ value A ts by (slice_index cls i)

@@ -1,5 +1,8 @@
 //! The classes of the nodes that have one value under every unifier.
 
+ghost use Rattle.std.specs.Prelude.{◌≡◌, ◌≢◌, ℕ, ◌+◌, ◌<◌, ◌≤◌, ◌↔◌, ◌++◌, ◌∷◌, [], true, false, List, length, slice_get, slice_index, slice_set, Option, Some, None, OnOk, IfOk, IsErrOf, IsTrue};
+ghost use Rattle.term_unify.specs.Graph.{nodes, value, rank, work, pair_up, IsGraph, IsForest, IsClosing, AreWithin, AreLabels, AreClasses, Respects, Solves, Leads, Shortened};
+
 use crate::graph::{Equation, Graph};
 use crate::laws::Term;
 use crate::unifier::UnifyFault;
@@ -7,7 +10,14 @@ use std::alloc::{AllocError, Global};
 
 impl<T: Term> Graph<'_, T> {
     /// The node that stands for the class of a node.
-    fn find(&self, parent: &mut [usize], node: usize) -> usize {
+    fn find(&self, parent: &mut [usize], node: usize) -> usize
+        requires forest { IsForest T.Term (nodes self.now.terms.items) parent.old }
+        requires inside { node < length parent.old }
+        ensures shortened { Shortened parent.old parent.new }
+        ensures leads { Leads parent.old node result }
+        ensures root { slice_index parent.new result ≡ result }
+        ensures inside { result < length parent.old }
+    {
         let mut at = node;
         while parent[at] != at {
             let next = parent[parent[at]];
@@ -18,7 +28,12 @@ impl<T: Term> Graph<'_, T> {
     }
 
     /// Whether a node is to stand above another: a term above a variable, else the earlier one.
-    fn is_above(&self, a: usize, b: usize) -> bool {
+    fn is_above(&self, a: usize, b: usize) -> bool
+        requires one { a < length self.now.terms.items }
+        requires other { b < length self.now.terms.items }
+        ensures yes { IsTrue result → a ≢ b → rank T.Term (nodes self.now.terms.items) a < rank T.Term (nodes self.now.terms.items) b }
+        ensures no { result ≡ false → a ≢ b → rank T.Term (nodes self.now.terms.items) b < rank T.Term (nodes self.now.terms.items) a }
+    {
         match (self.terms[a].as_var(), self.terms[b].as_var()) {
             (None, Some(_)) => true,
             (Some(_), None) => false,
@@ -33,7 +48,16 @@ impl<T: Term> Graph<'_, T> {
         pending: &mut Vec<Equation>,
         over: usize,
         under: usize,
-    ) -> Result<(), UnifyFault> {
+    ) -> Result<(), UnifyFault>
+        requires graph { IsGraph T.Term (nodes self.now.terms.items) self.now.first.items }
+        requires all { length parent.old ≡ length self.now.terms.items }
+        requires upper { over < length parent.old }
+        requires lower { under < length parent.old }
+        ensures linked { OnOk result (parent.new ≡ slice_set parent.old under over) }
+        ensures equated { OnOk result ((t : T) → slice_get (nodes self.now.terms.items) under ≡ Some t → pending.new.items ≡ pending.old.items ++ pair_up (slice_index self.now.first.items over) (slice_index self.now.first.items under) (length (T.kids t))) }
+        ensures alike { OnOk result ((s t : T) → slice_get (nodes self.now.terms.items) over ≡ Some s → slice_get (nodes self.now.terms.items) under ≡ Some t → T.var_of t ≡ None → T.alike s t ≡ true) }
+        ensures clash { IsErrOf result UnifyFault.Clash → (s t : T) → slice_get (nodes self.now.terms.items) over ≡ Some s → slice_get (nodes self.now.terms.items) under ≡ Some t → (T.var_of t ≡ None) × (T.alike s t ≡ false) }
+    {
         let (upper, lower) = (self.terms[over], self.terms[under]);
         if lower.as_var().is_none() {
             if !upper.same_head(lower) {
@@ -50,7 +74,13 @@ impl<T: Term> Graph<'_, T> {
         pending: &mut Vec<Equation>,
         over: usize,
         under: usize,
-    ) -> Result<(), AllocError> {
+    ) -> Result<(), AllocError>
+        requires graph { IsGraph T.Term (nodes self.now.terms.items) self.now.first.items }
+        requires upper { over < length self.now.terms.items }
+        requires lower { under < length self.now.terms.items }
+        requires same { (s t : T) → slice_get (nodes self.now.terms.items) over ≡ Some s → slice_get (nodes self.now.terms.items) under ≡ Some t → length (T.kids s) ≡ length (T.kids t) }
+        ensures { OnOk result ((t : T) → slice_get (nodes self.now.terms.items) under ≡ Some t → pending.new.items ≡ pending.old.items ++ pair_up (slice_index self.now.first.items over) (slice_index self.now.first.items under) (length (T.kids t))) }
+    {
         let (m, n) = (self.first[over], self.first[under]);
         for at in 0..self.terms[under].parts() {
             pending.push((m + at, n + at))?;
@@ -65,7 +95,15 @@ impl<T: Term> Graph<'_, T> {
         pending: &mut Vec<Equation>,
         a: usize,
         b: usize,
-    ) -> Result<(), UnifyFault> {
+    ) -> Result<(), UnifyFault>
+        requires graph { IsGraph T.Term (nodes self.now.terms.items) self.now.first.items }
+        requires forest { IsForest T.Term (nodes self.now.terms.items) parent.old }
+        requires one { a < length parent.old }
+        requires other { b < length parent.old }
+        ensures closing { OnOk result ((goal : List (ℕ × ℕ)) → IsClosing T.Term (nodes self.now.terms.items) self.now.first.items goal parent.old (pending.old.items ++ (a, b) ∷ []) → IsClosing T.Term (nodes self.now.terms.items) self.now.first.items goal parent.new pending.new.items) }
+        ensures less { OnOk result (work T.Term (nodes self.now.terms.items) parent.new pending.new.items ≤ work T.Term (nodes self.now.terms.items) parent.old pending.old.items) }
+        ensures clash { IsErrOf result UnifyFault.Clash → (goal : List (ℕ × ℕ)) → IsClosing T.Term (nodes self.now.terms.items) self.now.first.items goal parent.old (pending.old.items ++ (a, b) ∷ []) → (by : ℕ → Option T) → Solves (value T.Term (nodes self.now.terms.items) by) goal → ⊥ }
+    {
         let one = self.find(parent, a);
         let other = self.find(parent, b);
         if one == other {
@@ -78,17 +116,28 @@ impl<T: Term> Graph<'_, T> {
         }
     }
 
-    /// The node that stands for each node's class, from links to nodes of the same class.
-    fn settle(&self, parent: &mut [usize], variables: bool) {
-        for at in 0..parent.len() {
-            if self.terms[at].as_var().is_some() == variables {
-                parent[at] = parent[parent[at]];
-            }
+    /// For each node the one to which its links lead.
+    fn labels(&self, alloc: Global, parent: &mut [usize]) -> Result<Vec<usize>, AllocError>
+        requires { IsForest T.Term (nodes self.now.terms.items) parent.old }
+        ensures { IfOk result (λ cls. AreLabels parent.old cls.items) }
+    {
+        let mut labels = Vec::new(alloc);
+        for node in 0..parent.len() {
+            let root = self.find(parent, node);
+            labels.push(root)?;
         }
+        Ok(labels)
     }
 
     /// For each node the one that stands for its class.
-    pub fn classes(&self, alloc: Global, equal: Vec<Equation>) -> Result<Vec<usize>, UnifyFault> {
+    pub fn classes(&self, alloc: Global, equal: Vec<Equation>) -> Result<Vec<usize>, UnifyFault>
+        requires graph { IsGraph T.Term (nodes self.now.terms.items) self.now.first.items }
+        requires within { AreWithin (length self.now.terms.items) equal.items }
+        ensures classes { IfOk result (λ cls. AreClasses T.Term (nodes self.now.terms.items) self.now.first.items cls.items) }
+        ensures solved { IfOk result (λ cls. Solves (slice_index cls.items) equal.items) }
+        ensures sound { IfOk result (λ cls. (by : ℕ → Option T) → Solves (value T.Term (nodes self.now.terms.items) by) equal.items → Respects T.Term (nodes self.now.terms.items) cls.items by) }
+        ensures clash { IsErrOf result UnifyFault.Clash → (by : ℕ → Option T) → Solves (value T.Term (nodes self.now.terms.items) by) equal.items → ⊥ }
+    {
         let mut pending = equal;
         let mut parent = Vec::new(alloc);
         for node in 0..self.terms.len() {
@@ -97,8 +146,6 @@ impl<T: Term> Graph<'_, T> {
         while let Some((a, b)) = pending.pop() {
             self.join(&mut parent, &mut pending, a, b)?;
         }
-        self.settle(&mut parent, false);
-        self.settle(&mut parent, true);
-        Ok(parent)
+        Ok(self.labels(alloc, &mut parent)?)
     }
 }

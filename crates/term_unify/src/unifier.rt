@@ -23,7 +23,10 @@ pub enum UnifyFault {
 }
 
 impl From<AllocError> for UnifyFault {
-    ghost from_gives = { λ _ e. e ≡ UnifyFault.NoMemory };
+    ghost use Rattle.std.specs.Prelude.{◌≡◌};
+    ghost use Rattle.term_unify.specs.declared.unifier.UnifyFault.TheVariants.{NoMemory as OutOfMemory};
+
+    ghost from_gives = { λ _ e. e ≡ OutOfMemory };
 
     fn from(_error: AllocError) -> UnifyFault {
         UnifyFault::NoMemory
@@ -31,7 +34,10 @@ impl From<AllocError> for UnifyFault {
 }
 
 impl<T: Drop> From<AllocFailed<T>> for UnifyFault {
-    ghost from_gives = { λ _ e. e ≡ UnifyFault.NoMemory };
+    ghost use Rattle.std.specs.Prelude.{◌≡◌};
+    ghost use Rattle.term_unify.specs.declared.unifier.UnifyFault.TheVariants.{NoMemory as OutOfMemory};
+
+    ghost from_gives = { λ _ e. e ≡ OutOfMemory };
 
     fn from(_error: AllocFailed<T>) -> UnifyFault {
         UnifyFault::NoMemory
@@ -39,7 +45,10 @@ impl<T: Drop> From<AllocFailed<T>> for UnifyFault {
 }
 
 impl From<NoMemory> for UnifyFault {
-    ghost from_gives = { λ _ e. e ≡ UnifyFault.NoMemory };
+    ghost use Rattle.std.specs.Prelude.{◌≡◌};
+    ghost use Rattle.term_unify.specs.declared.unifier.UnifyFault.TheVariants.{NoMemory as OutOfMemory};
+
+    ghost from_gives = { λ _ e. e ≡ OutOfMemory };
 
     fn from(_error: NoMemory) -> UnifyFault {
         UnifyFault::NoMemory
