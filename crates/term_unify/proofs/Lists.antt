@@ -1,7 +1,8 @@
 use Rattle.std.proofs.Common.{◌≡◌, ◌≢◌, ℕ, zero, suc, ◌+◌, ◌<◌, ◌≤◌, List, [], ◌∷◌, ◌++◌, Option, Some, None, ◌⊎◌, inl, inr, length, get_or, take, drop, map, refl, ap, sym, ◌∙◌, subst, arith, length-append, add-one}
 use Rattle.std.specs.List.{slice_get, AllZip}
-use Rattle.std.proofs.Math.Seq.{take-suc}
+use Rattle.std.proofs.Math.Seq.{take-suc, take-append_seam}
 use Rattle.std.proofs.Math.Nat.{eq-or-lt_of_le}
+use Rattle.std.proofs.Math.ListN.{get_or-append}
 use Rattle.std.proofs.lemmas.List.{map-append}
 use Rattle.std.proofs.lemmas.Option.{slice_get_within, get_or_from_slice_get, slice_get-map, slice_get-get_or}
 use Rattle.std.proofs.lemmas.Bool.Decides.{eqb_tells}
@@ -107,3 +108,22 @@ AllZip_push P [] [] x y z p = (p, tt)
 AllZip_push P [] (w ∷ ys) x y z p = absurd z
 AllZip_push P (v ∷ xs) [] x y z p = absurd z
 AllZip_push P (v ∷ xs) (w ∷ ys) x y z p = (z.0, AllZip_push P xs ys x y z.1 p)
+
+-- what holds of each number so far holds with one number more
+pub each_more : (P : ℕ → ℕ → Type 0) (xs ys : List ℕ) (x n : ℕ) → length xs ≡ n → ys ≡ xs ++ x ∷ [] → ((i : ℕ) → i < n → P i (get_or xs i 0)) → P n x
+    → (i : ℕ) → i < n + 1 → P i (get_or ys i 0)
+each_more P xs ys x n many more was now i below =
+    elim (less_or_same i n below) [
+      inl lt ↦
+        let h : i < length xs = omega (arith, many) in
+        subst (P i) (sym (ap (λ z. get_or z i 0) more ∙ get_or-append xs (x ∷ []) 0 i h)) (was i lt)
+    | inr eq ↦
+        let last : get_or ys n 0 ≡ x = ap (λ z. get_or z n 0) more ∙ ap (λ k. get_or (xs ++ x ∷ []) k 0) (sym many) ∙ get_or_from_slice_get (xs ++ x ∷ []) (length xs) x 0 (got_next xs x) in
+        subst (λ k. P k (get_or ys k 0)) (sym eq) (subst (P n) (sym last) now) ]
+
+pub empty : {X : Type 0} (xs : List X) → length xs ≡ 0 → xs ≡ []
+empty [] e = refl
+empty (x ∷ xs) e = absurd (omega arith)
+
+pub take_front : {X : Type 0} (xs ys : List X) (n : ℕ) → n ≡ length xs → take n (xs ++ ys) ≡ xs
+take_front xs ys n e = ap (λ k. take k (xs ++ ys)) e ∙ take-append_seam xs ys

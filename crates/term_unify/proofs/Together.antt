@@ -2,12 +2,13 @@ use Rattle.std.proofs.Common.{◌≡◌, ◌≢◌, ℕ, ◌+◌, ◌<◌, ◌�
 use Rattle.std.specs.Prelude.{OnOk}
 use Rattle.std.specs.List.{slice_get, slice_index, slice_set}
 use Rattle.std.proofs.lemmas.Option.{slice_get_within}
-use Rattle.term_unify.specs.Graph.{nodes, value, rank, Follows, Leads, Shortened, IsForest, IsClosing, Solves, pair_up, live, work, IsGraph}
+use Rattle.term_unify.specs.Graph.{nodes, value, rank, Follows, Leads, Shortened, IsForest, IsClosing, Solves, pair_up, live, work, IsGraph, AreLabels, AreClasses, Respects}
+use Rattle.term_unify.specs.Graph.Leads.{here, up}
 use Rattle.term_unify.specs.Graph.Shortened.{same, halved}
 use Rattle.term_unify.specs.declared.laws.Term.{Ghosts}
 use Rattle.term_unify.proofs.Algebra.{Laws}
 use Rattle.term_unify.proofs.Lists.{got_some}
-use Rattle.term_unify.proofs.Forest.{leads_follow, leads_back, follows_halved, inside, shortened_forest, root_kept}
+use Rattle.term_unify.proofs.Forest.{leads_follow, leads_back, follows_halved, inside, shortened_forest, root_kept, root_stays, one_root}
 use Rattle.term_unify.proofs.Closing.{linked_closing, dropped_closing, shortened_closing, roots_same, same_alike, upper_term, live_shortened, work_linked}
 
 pub ok_then : {V E : Type 0} (r : Result V E) (P Q : Type 0) → OnOk r P → (P → Q) → OnOk r Q
@@ -140,3 +141,46 @@ module _ {T : Type 0} (A : Ghosts T) (L : Laws A) (ts : List T) (first : List �
         let e = sym (roots_same A L ts first goal ps0 es a b one other t'.0 s'.0 la lb0 C by z t'.1 s'.1) in
         let yes = same_alike A L ts first goal by s'.0 t'.0 (upper_term A L ts first goal other one s'.0 t'.0 s'.1 t'.1 low d.0) d.0 e in
         let no = d.1 in cc
+
+  -- ---- the classes at the end
+
+  module _ (goal : List (ℕ × ℕ)) (ps cls : List ℕ) (C : IsClosing A ts first goal ps []) (N : AreLabels ps cls) where
+    short : (i : ℕ) → i < length ts → i < length ps
+    short i b = let n = C.forest.all in omega (arith, n, b)
+
+    labels_follow : Follows (slice_index cls) ps
+    labels_follow i b =
+        let v = inside A ts ps C.forest i b in
+        one_root ps (N.root i b) (N.root (slice_index ps i) v) (N.leads i b) (up b (N.leads (slice_index ps i) v))
+
+    heads_along : {i j : ℕ} → Leads ps i j → (s : T) → slice_get ts i ≡ Some s → A.var_of s ≡ None → (t : T) × (slice_get ts j ≡ Some t) × (A.var_of t ≡ None) × (A.alike s t ≡ true)
+    heads_along here s at none = (s, at, none, L.alike_self s)
+    heads_along (up {i} b d) s at none =
+        let q = C.heads i s at none in
+        let r = heads_along d q.0 q.1 q.2 in
+        (r.0, r.1, r.2, L.alike_along s q.0 r.0 q.3 r.3)
+
+    parts_along : {i j : ℕ} → Leads ps i j → (n : ℕ) (s : T) → slice_get ts i ≡ Some s → A.var_of s ≡ None → n < length (A.kids s)
+        → slice_index cls (slice_index first i + n) ≡ slice_index cls (slice_index first j + n)
+    parts_along here n s at none below = refl
+    parts_along (up {i} b d) n s at none below =
+        let q = C.heads i s at none in
+        let m = L.alike_kids s q.0 q.3 in
+        C.parts (slice_index cls) labels_follow tt i n s at none below ∙ parts_along d n q.0 q.1 q.2 (omega (arith, m, below))
+
+    pub classes_made : AreClasses A ts first cls
+    classes_made =
+        let m = C.forest.all in
+        record {
+          all = N.all ∙ m;
+          within = λ i b. let w = N.within i (short i b) in omega (arith, w, m);
+          root = λ i b. let c = short i b in let w = N.within i c in root_stays ps (N.root i c) (N.leads (slice_index cls i) w);
+          heads = λ i s at none. heads_along (N.leads i (short i (slice_get_within ts i s at))) s at none;
+          parts = λ i n s at none below. parts_along (N.leads i (short i (slice_get_within ts i s at))) n s at none below;
+        }
+
+    pub classes_solve : Solves (slice_index cls) goal
+    classes_solve = C.complete (slice_index cls) labels_follow tt
+
+    pub classes_respected : (by : ℕ → Option T) → Solves (value A ts by) goal → Respects A ts cls by
+    classes_respected by z i b = leads_follow (value A ts by) ps ((C.sound by z).0) (N.leads i (short i b))
