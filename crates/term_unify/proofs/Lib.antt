@@ -4,3 +4,4 @@ pub mod Algebra
 pub mod Forest
 pub mod Closing
 pub mod Together
+pub mod Walking

@@ -1,4 +1,4 @@
-use Rattle.std.proofs.Common.{◌≡◌, ◌≢◌, ℕ, zero, suc, ◌+◌, ◌<◌, ◌≤◌, List, [], ◌∷◌, ◌++◌, Option, Some, None, ◌⊎◌, inl, inr, length, get_or, take, drop, map, refl, ap, sym, ◌∙◌, subst, arith, length-append, add-one}
+use Rattle.std.proofs.Common.{◌≡◌, ◌≢◌, ℕ, zero, suc, ◌+◌, ◌<◌, ◌≤◌, List, [], ◌∷◌, ◌++◌, Option, Some, None, ◌⊎◌, inl, inr, length, get_or, set, take, drop, map, refl, ap, sym, ◌∙◌, subst, arith, length-append, add-one}
 use Rattle.std.specs.List.{slice_get, AllZip}
 use Rattle.std.proofs.Math.Seq.{take-suc, take-append_seam}
 use Rattle.std.proofs.Math.Nat.{eq-or-lt_of_le}
@@ -127,3 +127,20 @@ empty (x ∷ xs) e = absurd (omega arith)
 
 pub take_front : {X : Type 0} (xs ys : List X) (n : ℕ) → n ≡ length xs → take n (xs ++ ys) ≡ xs
 take_front xs ys n e = ap (λ k. take k (xs ++ ys)) e ∙ take-append_seam xs ys
+
+pub got_set_other : {X : Type 0} (xs : List X) (i j : ℕ) (y : X) → j ≢ i → slice_get (set xs i y) j ≡ slice_get xs j
+got_set_other [] i j y apart = refl
+got_set_other (x ∷ xs) zero zero y apart = absurd (apart refl)
+got_set_other (x ∷ xs) zero (suc j) y apart = refl
+got_set_other (x ∷ xs) (suc i) zero y apart = refl
+got_set_other (x ∷ xs) (suc i) (suc j) y apart = got_set_other xs i j y (λ e. apart (ap suc e))
+
+pub got_set_here : {X : Type 0} (xs : List X) (i : ℕ) (y : X) → i < length xs → slice_get (set xs i y) i ≡ Some y
+got_set_here [] i y h = absurd (omega arith)
+got_set_here (x ∷ xs) zero y h = refl
+got_set_here (x ∷ xs) (suc i) y h = let k : i < length xs = omega arith in got_set_here xs i y k
+
+pub set_back : {X : Type 0} (xs : List X) (i : ℕ) (y z : X) → slice_get xs i ≡ Some z → set (set xs i y) i z ≡ xs
+set_back [] i y z e = refl
+set_back (x ∷ xs) zero y z e = let d : z ≡ x = cc in ap (λ v. v ∷ xs) d
+set_back (x ∷ xs) (suc i) y z e = ap (λ v. x ∷ v) (set_back xs i y z e)

@@ -1,5 +1,5 @@
 use Rattle.std.proofs.Common.{◌≡◌, ◌≢◌, ℕ, ◌+◌, ◌<◌, ◌≤◌, true, false, List, [], ◌∷◌, ◌++◌, Option, Some, None, length, refl, ap, sym, ◌∙◌, subst, arith, Result, Ok, Err}
-use Rattle.std.specs.Prelude.{OnOk}
+use Rattle.std.specs.Prelude.{OnOk, IsErrAnd}
 use Rattle.std.specs.List.{slice_get, slice_index, slice_set}
 use Rattle.std.proofs.lemmas.Option.{slice_get_within}
 use Rattle.term_unify.specs.Graph.{nodes, value, rank, Follows, Leads, Shortened, IsForest, IsClosing, Solves, pair_up, live, work, IsGraph, AreLabels, AreClasses, Respects}
@@ -184,3 +184,6 @@ module _ {T : Type 0} (A : Ghosts T) (L : Laws A) (ts : List T) (first : List �
 
     pub classes_respected : (by : ℕ → Option T) → Solves (value A ts by) goal → Respects A ts cls by
     classes_respected by z i b = leads_follow (value A ts by) ps ((C.sound by z).0) (N.leads i (short i b))
+
+pub err_is : {V E : Type 0} (r : Result V E) (P : E → Type 0) (x : E) → IsErrAnd r P → r ≡ Err x → P x
+err_is r P x a e = subst (λ q. IsErrAnd q P) e a
