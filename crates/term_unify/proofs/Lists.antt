@@ -1,5 +1,7 @@
 use Rattle.std.proofs.Common.{◌≡◌, ◌≢◌, ℕ, zero, suc, ◌+◌, ◌<◌, ◌≤◌, List, [], ◌∷◌, ◌++◌, Option, Some, None, ◌⊎◌, inl, inr, length, get_or, set, take, drop, map, refl, ap, sym, ◌∙◌, subst, arith, length-append, add-one}
 use Rattle.std.specs.List.{slice_get, AllZip}
+use Rattle.std.specs.Option.{is_some}
+use Rattle.std.specs.Prelude.{true, false}
 use Rattle.std.proofs.Math.Seq.{take-suc, take-append_seam}
 use Rattle.std.proofs.Math.Nat.{eq-or-lt_of_le}
 use Rattle.std.proofs.Math.ListN.{get_or-append}
@@ -144,3 +146,11 @@ pub set_back : {X : Type 0} (xs : List X) (i : ℕ) (y z : X) → slice_get xs i
 set_back [] i y z e = refl
 set_back (x ∷ xs) zero y z e = let d : z ≡ x = cc in ap (λ v. v ∷ xs) d
 set_back (x ∷ xs) (suc i) y z e = ap (λ v. x ∷ v) (set_back xs i y z e)
+
+pub some_of : {X : Type 0} (o : Option X) → is_some o ≡ true → (x : X) × (o ≡ Some x)
+some_of None e = absurd (cc)
+some_of (Some x) e = (x, refl)
+
+pub none_of : {X : Type 0} (o : Option X) → is_some o ≡ false → o ≡ None
+none_of None e = refl
+none_of (Some x) e = absurd (cc)

@@ -1,6 +1,8 @@
 use Rattle.std.proofs.Common.{◌≡◌, ◌≢◌, ℕ, zero, suc, ◌+◌, ◌<◌, ◌≤◌, ◌-◌, Bool, true, false, List, [], ◌∷◌, ◌++◌, Option, Some, None, ◌⊎◌, inl, inr, length, get_or, set, map, take, refl, ap, sym, ◌∙◌, subst, arith, length-append, add-one, Bor}
 use Rattle.std.specs.List.{slice_get, slice_index, slice_set}
 use Rattle.std.specs.Option.{option_map}
+use Rattle.std.specs.Prelude.{replicate, unwrap_or}
+use Rattle.std.proofs.lemmas.List.{length-replicate}
 use Rattle.std.proofs.lemmas.List.{length-set, length-map}
 use Rattle.std.proofs.lemmas.Option.{slice_get_within, slice_get-map}
 use Rattle.term_unify.specs.Terms.{total}
@@ -210,3 +212,100 @@ module _ {T : Type 0} (A : Ghosts T) (L : Laws A) (ts : List T) (first cls : Lis
       let m = size_more first cls sizes sizes' root at size x kept done is (now ∙ ap (λ k. slice_index sizes' (slice_index cls (k + at))) start) in
       let l = low_sum A L ts first cls sizes' order' G W by R root (at + 1) t v here at-v (omega (arith, below)) in
       omega (arith, m, l, small, over, fits)
+
+-- the classes of the first nodes have their sizes
+pub record Ordered {T : Type 0} (A : Ghosts T) (ts : List T) (cls sizes : List ℕ) (limit most : ℕ) : Type 0 where
+  pub small : (r : ℕ) → slice_index sizes r ≤ limit
+  pub all : (i x : ℕ) (t : T) → i < most → slice_get ts i ≡ Some t → A.var_of t ≡ Some x → 0 < slice_index sizes (slice_index cls i)
+  pub stands : (i x : ℕ) (t s : T) → i < most → slice_get ts i ≡ Some t → A.var_of t ≡ Some x → slice_get ts (slice_index cls i) ≡ Some s → A.stands s ≡ true
+
+pub zero_at : (n r : ℕ) → slice_index (replicate n 0) r ≡ 0
+zero_at zero r = refl
+zero_at (suc n) zero = refl
+zero_at (suc n) (suc r) = zero_at n r
+
+pub no_true : (n r : ℕ) → slice_get (replicate n false) r ≡ Some true → ⊥
+no_true zero r e = cc
+no_true (suc n) zero e = cc
+no_true (suc n) (suc r) e = no_true n r e
+
+pub walk_starts : {T : Type 0} (A : Ghosts T) (ts : List T) (first cls sizes : List ℕ) (n : ℕ) → sizes ≡ replicate n 0 → n ≡ length ts → IsWalk A ts first cls sizes []
+walk_starts A ts first cls sizes n is many =
+    let zero_s : (r : ℕ) → slice_index sizes r ≡ 0 = λ r. ap (λ z. slice_index z r) is ∙ zero_at n r in
+    record {
+      sized = ap length is ∙ length-replicate n 0 ∙ many;
+      seen = λ r pos. let z = zero_s r in absurd (omega (arith, z, pos));
+      known = λ p r e. absurd (cc);
+      once = λ p q r e f. absurd (cc);
+      size = λ p r t e at. absurd (cc);
+      parts = λ p r m t e at b. absurd (cc);
+      low = λ by R r v e. let z = zero_s r in omega (arith, z);
+    }
+
+pub ordered_starts : {T : Type 0} (A : Ghosts T) (ts : List T) (cls sizes : List ℕ) (n limit : ℕ) → sizes ≡ replicate n 0 → Ordered A ts cls sizes limit 0
+ordered_starts A ts cls sizes n limit is = record {
+  small = λ r. let z : slice_index sizes r ≡ 0 = ap (λ z. slice_index z r) is ∙ zero_at n r in omega (arith, z);
+  all = λ i x t b at var. absurd (omega arith);
+  stands = λ i x t s b at var at'. absurd (omega arith);
+}
+
+module _ {T : Type 0} (A : Ghosts T) (L : Laws A) (ts : List T) where
+  -- a node that is no variable
+  pub ordered_other : (cls sizes : List ℕ) (limit n : ℕ) (t : T) → slice_get ts n ≡ Some t → A.var_of t ≡ None → Ordered A ts cls sizes limit n → Ordered A ts cls sizes limit (n + 1)
+  ordered_other cls sizes limit n t at none O = record {
+    small = O.small;
+    all = λ i x u b at' var. elim (less_or_same i n b) [
+        inl lt ↦ O.all i x u lt at' var
+      | inr eq ↦ let d : u ≡ t = same_item ts n u t (ap (slice_get ts) (sym eq) ∙ at') at in let e = ap A.var_of d in absurd (cc) ];
+    stands = λ i x u s b at' var at-s. elim (less_or_same i n b) [
+        inl lt ↦ O.stands i x u s lt at' var at-s
+      | inr eq ↦ let d : u ≡ t = same_item ts n u t (ap (slice_get ts) (sym eq) ∙ at') at in let e = ap A.var_of d in absurd (cc) ];
+  }
+
+  pub ordered_more : (cls sizes sizes' : List ℕ) (limit n : ℕ) (s : T) → slice_get ts (slice_index cls n) ≡ Some s → A.stands s ≡ true
+      → ((r : ℕ) → slice_index sizes' r ≤ limit) → ((m : ℕ) → 0 < slice_index sizes m → slice_index sizes' m ≡ slice_index sizes m) → 0 < slice_index sizes' (slice_index cls n)
+      → Ordered A ts cls sizes limit n → Ordered A ts cls sizes' limit (n + 1)
+  ordered_more cls sizes sizes' limit n s at may small kept done O = record {
+    small = small;
+    all = λ i x u b at' var. elim (less_or_same i n b) [
+        inl lt ↦ let p = O.all i x u lt at' var in let k = kept (slice_index cls i) p in omega (arith, p, k)
+      | inr eq ↦ subst (λ m. 0 < slice_index sizes' (slice_index cls m)) (sym eq) done ];
+    stands = λ i x u s' b at' var at-s. elim (less_or_same i n b) [
+        inl lt ↦ O.stands i x u s' lt at' var at-s
+      | inr eq ↦ let d : s' ≡ s = same_item ts (slice_index cls n) s' s (ap (λ m. slice_get ts (slice_index cls m)) (sym eq) ∙ at-s) at in ap A.stands d ∙ may ];
+  }
+
+  -- the value of a variable under a substitution that is allowed
+  pub allowed_value : (limit : ℕ) (by : ℕ → Option T) (t : T) (x : ℕ) → 1 ≤ limit → IsAdmissible A limit by → A.var_of t ≡ Some x → (A.size (A.apply by t) ≤ limit) × (A.stands (A.apply by t) ≡ true)
+  allowed_value limit by t x some ok var = go (by x) refl
+    where
+    go : (o : Option T) → by x ≡ o → (A.size (A.apply by t) ≤ limit) × (A.stands (A.apply by t) ≡ true)
+    go None e =
+        let same : A.apply by t ≡ t = L.apply_var by t x var ∙ ap (λ o. unwrap_or o t) e in
+        let a = ap A.size same in let b = L.size_is t in let c = ap (total A.size) (L.var_kids t x var) in
+        (omega (arith, a, b, c, some), ap A.stands same ∙ L.var_stands t x var)
+    go (Some u) e =
+        let same : A.apply by t ≡ u = L.apply_var by t x var ∙ ap (λ o. unwrap_or o t) e in
+        let a = ap A.size same in let r = ok x u e in
+        (omega (arith, a, r.0), ap A.stands same ∙ r.1)
+
+  pub stands_before : (by : ℕ → Option T) (s : T) → A.stands (A.apply by s) ≡ true → A.stands s ≡ true
+  stands_before by s may = go (A.var_of s) refl
+    where
+    go : (o : Option ℕ) → A.var_of s ≡ o → A.stands s ≡ true
+    go None e = sym (L.alike_stands (A.apply by s) s (L.apply_alike by s e)) ∙ may
+    go (Some x) e = L.var_stands s x e
+
+  module _ (first cls : List ℕ) (by : ℕ → Option T) (R : Respects A ts cls by) (limit : ℕ) (some : 1 ≤ limit) (ok : IsAdmissible A limit by)
+      (n x : ℕ) (t s : T) (at : slice_get ts n ≡ Some t) (var : A.var_of t ≡ Some x) (at-s : slice_get ts (slice_index cls n) ≡ Some s) where
+    same_value : A.apply by t ≡ A.apply by s
+    same_value =
+        let e : Some (A.apply by t) ≡ Some (A.apply by s) =
+              sym (ap (option_map (A.apply by)) at) ∙ R n (slice_get_within ts n t at) ∙ ap (option_map (A.apply by)) at-s in cc
+
+    pub stands_clash : A.stands s ≡ false → ⊥
+    stands_clash off =
+        let a = stands_before by s (sym (ap A.stands same_value) ∙ (allowed_value limit by t x some ok var).1) in cc
+
+    pub root_small : A.size (A.apply by s) ≤ limit
+    root_small = let e = ap A.size same_value in let a = (allowed_value limit by t x some ok var).0 in omega (arith, e, a)

@@ -71,6 +71,7 @@ impl<T: Term> Graph<'_, T> {
         classes: &[usize],
         limit: u32,
     ) -> Result<Vec<usize>, UnifyFault>
+        requires some { 1 ≤ limit }
         requires graph { IsGraph T.Term (nodes self.now.terms.items) self.now.first.items }
         requires classes { AreClasses T.Term (nodes self.now.terms.items) self.now.first.items classes.now }
         ensures order { IfOk result (λ order. IsOrder T.Term (nodes self.now.terms.items) self.now.first.items classes.now limit order.items) }
