@@ -5,3 +5,4 @@ pub mod Forest
 pub mod Closing
 pub mod Together
 pub mod Walking
+pub mod Bindings

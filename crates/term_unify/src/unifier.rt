@@ -64,5 +64,5 @@ pub fn unify<T: Term>(alloc: Global, pairs: &Pairs<T>, limit: u32) -> Result<Sub
     let classes = graph.classes(alloc, equal)?;
     let order = graph.order(alloc, &classes, limit)?;
     let groups = graph.groups(alloc, &classes)?;
-    Ok(graph.bindings(alloc, &order, &groups)?)
+    Ok(graph.bindings(alloc, &classes, &order, &groups, limit)?)
 }
