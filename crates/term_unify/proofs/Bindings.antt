@@ -208,3 +208,73 @@ module _ {T : Type 0} (A : Ghosts T) (L : Laws A) (ts : List T) (firsts cls size
 
     pub now_handled : IsHandled A new x s
     now_handled = inr here
+
+pub first_entry : {T : Type 0} (list : List (ℕ × T)) (x : ℕ) (u : T) → first list x ≡ Some u → (k : ℕ) × (e : ℕ × T) × (slice_get list k ≡ Some e) × (e.0 ≡ x) × (e.1 ≡ u)
+first_entry [] x u is = absurd (cc)
+first_entry (d ∷ list) x u is =
+    elim (eqb_tells d.0 x) [
+      inl t ↦ let a : Some d.1 ≡ Some u = sym (ap (λ b. if b then Some d.1 else first list x) t.0) ∙ is in let b : d.1 ≡ u = cc in (0, d, refl, t.1, b)
+    | inr f ↦ let r = first_entry list x u (sym (ap (λ b. if b then Some d.1 else first list x) f.0) ∙ is) in (suc r.0, r.1, r.2, r.3, r.4) ]
+
+module _ {T : Type 0} (A : Ghosts T) (L : Laws A) (ts : List T) (firsts : List ℕ) (root : ℕ) (group : List ℕ) where
+  pub binds_starts : (old : List (ℕ × T)) → Binds A ts firsts root group 0 old old
+  binds_starts old cls sizes order p K J G W place mine B = (B, λ k i x t s below at-k at var at-s. absurd (omega arith))
+
+  -- a node whose variable needs no entry any more
+  pub binds_kept : (n i : ℕ) (old cur : List (ℕ × T)) → slice_get group n ≡ Some i
+      → ((cls sizes order : List ℕ) (p : ℕ) → AreClasses A ts firsts cls → JoinsVariables A ts (length ts) (slice_index cls) → slice_index cls i ≡ root → IsBinding A ts cls order p cur
+          → (x : ℕ) (t s : T) → slice_get ts i ≡ Some t → A.var_of t ≡ Some x → slice_get ts root ≡ Some s → IsHandled A cur x s)
+      → Binds A ts firsts root group n old cur → Binds A ts firsts root group (n + 1) old cur
+  binds_kept n i old cur item now prev cls sizes order p K J G W place mine B =
+      let r = prev cls sizes order p K J G W place mine B in
+      (r.0, λ k j x t s below at-k at var at-s.
+        elim (less_or_same k n below) [
+          inl lt ↦ r.1 k j x t s lt at-k at var at-s
+        | inr eq ↦
+            let same : j ≡ i = same_item group n j i (ap (slice_get group) (sym eq) ∙ at-k) item in
+            now cls sizes order p K J (mine n i item) r.0 x t s (ap (slice_get ts) (sym same) ∙ at) var at-s ])
+
+  pub binds_other : (n i : ℕ) (old cur : List (ℕ × T)) (t : T) → slice_get group n ≡ Some i → slice_get ts i ≡ Some t → A.var_of t ≡ None
+      → Binds A ts firsts root group n old cur → Binds A ts firsts root group (n + 1) old cur
+  binds_other n i old cur t item at none =
+      binds_kept n i old cur item (λ cls sizes order p K J mine B x u s at-u var at-s. (let e = ap A.var_of (same_item ts i u t at-u at) in absurd (cc)))
+
+  pub binds_own : (n i x : ℕ) (old cur : List (ℕ × T)) (t s : T) → slice_get group n ≡ Some i → slice_get ts i ≡ Some t → A.var_of t ≡ Some x → slice_get ts root ≡ Some s → A.var_of s ≡ Some x
+      → Binds A ts firsts root group n old cur → Binds A ts firsts root group (n + 1) old cur
+  binds_own n i x old cur t s item at var at-s own =
+      binds_kept n i old cur item (λ cls sizes order p K J mine B y u v at-u var-u at-v.
+        (let a = ap A.var_of (same_item ts i u t at-u at) in
+          inl (ap A.var_of (same_item ts root v s at-v at-s) ∙ own ∙ sym var ∙ sym a ∙ var-u)))
+
+  pub binds_listed : (n i x : ℕ) (old cur : List (ℕ × T)) (t w : T) → slice_get group n ≡ Some i → slice_get ts i ≡ Some t → A.var_of t ≡ Some x → first cur x ≡ Some w
+      → Binds A ts firsts root group n old cur → Binds A ts firsts root group (n + 1) old cur
+  binds_listed n i x old cur t w item at var has =
+      binds_kept n i old cur item (λ cls sizes order p K J mine B y u v at-u var-u at-v.
+        (let same : Some y ≡ Some x = sym var-u ∙ ap A.var_of (same_item ts i u t at-u at) ∙ var in
+         let yx : y ≡ x = cc in
+         let f = first_entry cur x w has in
+         let r = B.listed f.0 f.1 f.2 in
+         let c : slice_index cls r.0 ≡ slice_index cls i = J r.0 i r.2 t x (slice_get_within ts r.0 r.2 r.4) (slice_get_within ts i t at) r.4 at (r.5 ∙ ap Some f.3) var in
+         let d : r.3 ≡ v = same_item ts root r.3 v (ap (slice_get ts) (sym (c ∙ mine)) ∙ r.6) at-v in
+         inr (ap (first cur) yx ∙ has ∙ ap Some (sym f.4 ∙ r.10 ∙ ap (A.apply (first cur)) d))))
+
+  pub binds_added : (n i x : ℕ) (old cur new : List (ℕ × T)) (t s : T) → slice_get group n ≡ Some i → slice_get ts i ≡ Some t → A.var_of t ≡ Some x → slice_get ts root ≡ Some s
+      → first cur x ≡ None → A.var_of s ≢ Some x → new ≡ cur ++ (x, A.apply (first cur) s) ∷ []
+      → Binds A ts firsts root group n old cur → Binds A ts firsts root group (n + 1) old new
+  binds_added n i x old cur new t s item at var at-s none other more prev cls sizes order p K J G W place mine B =
+      let r = prev cls sizes order p K J G W place mine B in
+      let m = mine n i item in
+      (binding_more A L ts firsts cls sizes order K J G W p root place cur r.0 i x t s at var m at-s none other new more,
+       λ k j y u v below at-k at-u var-u at-v.
+         elim (less_or_same k n below) [
+           inl lt ↦
+             still A L ts firsts cls sizes order K J G W p root place cur r.0 i x t s at var m at-s none other new more y p root v at-v (omega arith) place
+               (r.1 k j y u v lt at-k at-u var-u at-v) (λ e. (refl, same_item ts root v s at-v at-s))
+         | inr eq ↦
+             let same : j ≡ i = same_item group n j i (ap (slice_get group) (sym eq) ∙ at-k) item in
+             let ut : u ≡ t = same_item ts i u t (ap (slice_get ts) (sym same) ∙ at-u) at in
+             let yx0 : Some y ≡ Some x = sym var-u ∙ ap A.var_of ut ∙ var in
+             let yx : y ≡ x = cc in
+             let vs : v ≡ s = same_item ts root v s at-v at-s in
+             subst (λ z. IsHandled A new z v) (sym yx) (subst (IsHandled A new x) (sym vs)
+               (now_handled A L ts firsts cls sizes order K J G W p root place cur r.0 i x t s at var m at-s none other new more)) ])

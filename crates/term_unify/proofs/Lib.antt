@@ -6,3 +6,4 @@ pub mod Closing
 pub mod Together
 pub mod Walking
 pub mod Bindings
+pub mod Places

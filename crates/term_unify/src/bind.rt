@@ -44,8 +44,9 @@ impl<T: Term> Graph<'_, T> {
     {
         let term = self.terms[root];
         for node in group {
-            if let Some(variable) = self.terms[*node].as_var() {
-                if term.as_var() != Some(variable) && done.get(variable).is_none() {
+            let this = self.terms[*node];
+            if let Some(variable) = this.as_var() {
+                if !term.same_head(this) && done.get(variable).is_none() {
                     let value = term.put(alloc, done)?;
                     done.push(variable, value)?;
                 }
