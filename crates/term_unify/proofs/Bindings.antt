@@ -278,3 +278,30 @@ module _ {T : Type 0} (A : Ghosts T) (L : Laws A) (ts : List T) (firsts : List �
              let vs : v ≡ s = same_item ts root v s at-v at-s in
              subst (λ z. IsHandled A new z v) (sym yx) (subst (IsHandled A new x) (sym vs)
                (now_handled A L ts firsts cls sizes order K J G W p root place cur r.0 i x t s at var m at-s none other new more)) ])
+
+-- ---- one place more
+
+module _ {T : Type 0} (A : Ghosts T) (ts : List T) (cls order : List ℕ) where
+  pub binding_starts : (list : List (ℕ × T)) → list ≡ [] → IsBinding A ts cls order 0 list
+  binding_starts list none = record {
+    handled = λ i x q t s at var at-s before place. absurd (omega arith);
+    free = λ i x s at self var. ap (λ z. first z x) none;
+    listed = λ k e at. let a : slice_get [] k ≡ Some e = ap (λ z. slice_get z k) (sym none) ∙ at in absurd (cc);
+    once = λ k l e f at at' is. let a : slice_get [] k ≡ Some e = ap (λ z. slice_get z k) (sym none) ∙ at in absurd (cc);
+  }
+
+  pub binding_next : (p root : ℕ) (list : List (ℕ × T)) → slice_get order p ≡ Some root → IsBinding A ts cls order p list
+      → ((i x : ℕ) (t s : T) → slice_get ts i ≡ Some t → A.var_of t ≡ Some x → slice_index cls i ≡ root → slice_get ts root ≡ Some s → IsHandled A list x s)
+      → IsBinding A ts cls order (p + 1) list
+  binding_next p root list place B now = record {
+    handled = λ i x q t s at var at-s before place-q.
+      elim (less_or_same q p before) [
+        inl lt ↦ B.handled i x q t s at var at-s lt place-q
+      | inr eq ↦
+          let a : Some (slice_index cls i) ≡ Some root = sym place-q ∙ ap (slice_get order) eq ∙ place in
+          let c : slice_index cls i ≡ root = cc in
+          now i x t s at var c (ap (slice_get ts) (sym c) ∙ at-s) ];
+    free = B.free;
+    listed = λ k e at. let r = B.listed k e at in (r.0, r.1, r.2, r.3, r.4, r.5, r.6, omega (arith, r.7), r.8, r.9, r.10);
+    once = B.once;
+  }

@@ -7,3 +7,4 @@ pub mod Together
 pub mod Walking
 pub mod Bindings
 pub mod Places
+pub mod Solved

@@ -61,14 +61,14 @@ impl<T: Term> Graph<'_, T> {
         alloc: Global,
         classes: &[usize],
         order: &[usize],
-        groups: &[Vec<usize>],
+        groups: &Vec<Vec<usize>>,
         limit: u32,
     ) -> Result<Subst<T>, NoMemory>
         requires graph { IsGraph T.Term (nodes self.now.terms.items) self.now.first.items }
         requires classes { AreClasses T.Term (nodes self.now.terms.items) self.now.first.items classes.now }
         requires joined { JoinsVariables T.Term (nodes self.now.terms.items) (length self.now.terms.items) (slice_index classes.now) }
         requires order { IsOrder T.Term (nodes self.now.terms.items) self.now.first.items classes.now limit order.now }
-        requires groups { AreGroups T.Term (nodes self.now.terms.items) classes.now (length self.now.terms.items) groups.now }
+        requires groups { AreGroups T.Term (nodes self.now.terms.items) classes.now (length self.now.terms.items) groups.now.items }
         ensures { IfOk result (λ done. IsBinding T.Term (nodes self.now.terms.items) classes.now order.now (length order.now) done.list) }
     {
         let mut done = Subst::new(alloc);
