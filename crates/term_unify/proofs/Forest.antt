@@ -42,8 +42,9 @@ halved_follows f ps i h apart within follows j below =
     let n : length (slice_set ps i (slice_index ps (slice_index ps i))) ≡ length ps = length-set ps i _ in
     let b : j < length ps = omega (arith, n) in
     elim (same_or_not j i) [
-      inl e ↦ ap f e ∙ follows i h ∙ follows (slice_index ps i) (within i h) ∙ ap f (sym (set_here ps i _ j h e))
-    | inr d ↦ follows j b ∙ ap f (sym (set_there ps i _ j d)) ]
+      | inl e ↦ ap f e ∙ follows i h ∙ follows (slice_index ps i) (within i h) ∙ ap f (sym (set_here ps i _ j h e))
+      | inr d ↦ follows j b ∙ ap f (sym (set_there ps i _ j d))
+    ]
 
 pub follows_halved : {X : Type 0} (f : ℕ → X) (ps : List ℕ) (i : ℕ) → i < length ps → slice_index ps i ≢ i
     → ((j : ℕ) → j < length ps → slice_index ps j < length ps)
@@ -52,13 +53,14 @@ follows_halved f ps i h apart within follows j below =
     let n : length (slice_set ps i (slice_index ps (slice_index ps i))) ≡ length ps = length-set ps i _ in
     let b : j < length (slice_set ps i (slice_index ps (slice_index ps i))) = omega (arith, n) in
     elim (same_or_not j i) [
-      inl e ↦
-        let w = within i h in
-        let v : slice_index ps i < length (slice_set ps i (slice_index ps (slice_index ps i))) = omega (arith, n, w) in
-        let far : f j ≡ f (slice_index ps (slice_index ps i)) = follows j b ∙ ap f (set_here ps i _ j h e) in
-        let near : f (slice_index ps i) ≡ f (slice_index ps (slice_index ps i)) = follows (slice_index ps i) v ∙ ap f (set_there ps i _ (slice_index ps i) apart) in
-        far ∙ sym near ∙ ap (λ k. f (slice_index ps k)) (sym e)
-    | inr d ↦ follows j b ∙ ap f (set_there ps i _ j d) ]
+      | inl e ↦
+          let w = within i h in
+          let v : slice_index ps i < length (slice_set ps i (slice_index ps (slice_index ps i))) = omega (arith, n, w) in
+          let far : f j ≡ f (slice_index ps (slice_index ps i)) = follows j b ∙ ap f (set_here ps i _ j h e) in
+          let near : f (slice_index ps i) ≡ f (slice_index ps (slice_index ps i)) = follows (slice_index ps i) v ∙ ap f (set_there ps i _ (slice_index ps i) apart) in
+          far ∙ sym near ∙ ap (λ k. f (slice_index ps k)) (sym e)
+      | inr d ↦ follows j b ∙ ap f (set_there ps i _ j d)
+    ]
 
 module _ {T : Type 0} (A : Ghosts T) (ts : List T) where
   pub halved_forest : (ps : List ℕ) (i : ℕ) → i < length ps → slice_index ps i ≢ i → IsForest A ts ps
@@ -69,17 +71,20 @@ module _ {T : Type 0} (A : Ghosts T) (ts : List T) where
       let up1 = F.within i w in
       let far = slice_index ps (slice_index ps i) in
       let low : rank A ts far < rank A ts i =
-            elim (same_or_not far (slice_index ps i)) [
-              inl e ↦ subst (λ k. rank A ts k < rank A ts i) (sym e) (F.down i w apart)
-            | inr d ↦ let a = F.down (slice_index ps i) up1 d in let b = F.down i w apart in omega (arith, a, b) ] in
+      elim (same_or_not far (slice_index ps i)) [
+        | inl e ↦ subst (λ k. rank A ts k < rank A ts i) (sym e) (F.down i w apart)
+        | inr d ↦ let a = F.down (slice_index ps i) up1 d in let b = F.down i w apart in omega (arith, a, b)
+      ] in
       record {
         all = length-set ps i _ ∙ n;
         within = λ j b. elim (same_or_not j i) [
-            inl e ↦ subst (λ k. k < length ts) (sym (set_here ps i far j h e)) (F.within (slice_index ps i) up1)
-          | inr d ↦ subst (λ k. k < length ts) (sym (set_there ps i far j d)) (F.within j b) ];
+          | inl e ↦ subst (λ k. k < length ts) (sym (set_here ps i far j h e)) (F.within (slice_index ps i) up1)
+          | inr d ↦ subst (λ k. k < length ts) (sym (set_there ps i far j d)) (F.within j b)
+        ];
         down = λ j b moves. elim (same_or_not j i) [
-            inl e ↦ subst (λ k. rank A ts k < rank A ts j) (sym (set_here ps i far j h e)) (subst (λ k. rank A ts far < rank A ts k) (sym e) low)
-          | inr d ↦ subst (λ k. rank A ts k < rank A ts j) (sym (set_there ps i far j d)) (F.down j b (λ same. moves (set_there ps i far j d ∙ same))) ];
+          | inl e ↦ subst (λ k. rank A ts k < rank A ts j) (sym (set_here ps i far j h e)) (subst (λ k. rank A ts far < rank A ts k) (sym e) low)
+          | inr d ↦ subst (λ k. rank A ts k < rank A ts j) (sym (set_there ps i far j d)) (F.down j b (λ same. moves (set_there ps i far j d ∙ same)))
+        ];
       }
 
   pub inside : (ps : List ℕ) → IsForest A ts ps → (j : ℕ) → j < length ps → slice_index ps j < length ps
@@ -97,11 +102,12 @@ module _ {T : Type 0} (A : Ghosts T) (ts : List T) where
       let c : j < length ps = omega (arith, n) in
       let G = shortened_forest old F s in
       elim (same_or_not j i) [
-        inl e ↦
-          subst (Leads old j) (sym (set_here ps i _ j h e))
+        | inl e ↦
+            subst (Leads old j) (sym (set_here ps i _ j h e))
             (subst (λ k. Leads old k (slice_index ps (slice_index ps i))) (sym e)
-              (leads_along old (link_leads old F s i h) (link_leads old F s (slice_index ps i) (inside ps G i h))))
-      | inr d ↦ subst (Leads old j) (sym (set_there ps i _ j d)) (link_leads old F s j c) ]
+            (leads_along old (link_leads old F s i h) (link_leads old F s (slice_index ps i) (inside ps G i h))))
+        | inr d ↦ subst (Leads old j) (sym (set_there ps i _ j d)) (link_leads old F s j c)
+      ]
 
   pub leads_back : (old : List ℕ) {ps : List ℕ} → IsForest A ts old → Shortened old ps → {i j : ℕ} → Leads ps i j → Leads old i j
   leads_back old F s here = here
@@ -124,15 +130,16 @@ module _ {T : Type 0} (A : Ghosts T) (ts : List T) where
       let w : i < length ts = omega arith in
       let v = G.within i w in
       elim (same_or_not j i) [
-        inl e ↦
-          let far = slice_index ps (slice_index ps i) in
-          let back : far ≡ i = sym (set_here ps i far j h e) ∙ is ∙ e in
-          let a = G.down i w apart in
-          let moves : far ≢ slice_index ps i = λ k. apart (sym k ∙ back) in
-          let b = G.down (slice_index ps i) v moves in
-          let c : rank A ts far ≡ rank A ts i = ap (rank A ts) back in
-          absurd (omega (arith, a, b, c))
-      | inr d ↦ root_before old F s j (sym (set_there ps i _ j d) ∙ is) ]
+        | inl e ↦
+            let far = slice_index ps (slice_index ps i) in
+            let back : far ≡ i = sym (set_here ps i far j h e) ∙ is ∙ e in
+            let a = G.down i w apart in
+            let moves : far ≢ slice_index ps i = λ k. apart (sym k ∙ back) in
+            let b = G.down (slice_index ps i) v moves in
+            let c : rank A ts far ≡ rank A ts i = ap (rank A ts) back in
+            absurd (omega (arith, a, b, c))
+        | inr d ↦ root_before old F s j (sym (set_there ps i _ j d) ∙ is)
+      ]
 
   -- a node that is no root is above its link
   pub lower : (ps : List ℕ) (i : ℕ) → IsForest A ts ps → i < length ps → slice_index ps i ≢ i → rank A ts (slice_index ps (slice_index ps i)) < rank A ts i
@@ -141,5 +148,6 @@ module _ {T : Type 0} (A : Ghosts T) (ts : List T) where
       let w : i < length ts = omega arith in
       let v = F.within i w in
       elim (same_or_not (slice_index ps (slice_index ps i)) (slice_index ps i)) [
-        inl e ↦ subst (λ k. rank A ts k < rank A ts i) (sym e) (F.down i w apart)
-      | inr d ↦ let a = F.down (slice_index ps i) v d in let b = F.down i w apart in omega (arith, a, b) ]
+        | inl e ↦ subst (λ k. rank A ts k < rank A ts i) (sym e) (F.down i w apart)
+        | inr d ↦ let a = F.down (slice_index ps i) v d in let b = F.down i w apart in omega (arith, a, b)
+      ]

@@ -116,12 +116,13 @@ pub each_more : (P : ℕ → ℕ → Type 0) (xs ys : List ℕ) (x n : ℕ) → 
     → (i : ℕ) → i < n + 1 → P i (get_or ys i 0)
 each_more P xs ys x n many more was now i below =
     elim (less_or_same i n below) [
-      inl lt ↦
-        let h : i < length xs = omega (arith, many) in
-        subst (P i) (sym (ap (λ z. get_or z i 0) more ∙ get_or-append xs (x ∷ []) 0 i h)) (was i lt)
-    | inr eq ↦
-        let last : get_or ys n 0 ≡ x = ap (λ z. get_or z n 0) more ∙ ap (λ k. get_or (xs ++ x ∷ []) k 0) (sym many) ∙ get_or_from_slice_get (xs ++ x ∷ []) (length xs) x 0 (got_next xs x) in
-        subst (λ k. P k (get_or ys k 0)) (sym eq) (subst (P n) (sym last) now) ]
+      | inl lt ↦
+          let h : i < length xs = omega (arith, many) in
+          subst (P i) (sym (ap (λ z. get_or z i 0) more ∙ get_or-append xs (x ∷ []) 0 i h)) (was i lt)
+      | inr eq ↦
+          let last : get_or ys n 0 ≡ x = ap (λ z. get_or z n 0) more ∙ ap (λ k. get_or (xs ++ x ∷ []) k 0) (sym many) ∙ get_or_from_slice_get (xs ++ x ∷ []) (length xs) x 0 (got_next xs x) in
+          subst (λ k. P k (get_or ys k 0)) (sym eq) (subst (P n) (sym last) now)
+    ]
 
 pub empty : {X : Type 0} (xs : List X) → length xs ≡ 0 → xs ≡ []
 empty [] e = refl

@@ -22,16 +22,16 @@ pub posed : {T : Type 0} (ts us vs : List (Bor T)) (es fs : List (ℕ × ℕ)) (
 posed {T} ts us vs es fs ps i at p a b was one two more here first second below is =
     let item : slice_get ps i ≡ Some p = slice_get-get_or ps i p below ∙ ap Some (sym is) in
     let now : nodes vs ≡ (nodes ts ++ p.0 ∷ []) ++ p.1 ∷ [] =
-          ap nodes two ∙ map-append (λ (t : Bor T). t.now) us (b ∷ []) ∙ ap (λ z. z ++ b.now ∷ []) (ap nodes one ∙ map-append (λ (t : Bor T). t.now) ts (a ∷ []))
-          ∙ (λ k. (nodes ts ++ first k ∷ []) ++ second k ∷ []) in
+    ap nodes two ∙ map-append (λ (t : Bor T). t.now) us (b ∷ []) ∙ ap (λ z. z ++ b.now ∷ []) (ap nodes one ∙ map-append (λ (t : Bor T). t.now) ts (a ∷ []))
+    ∙ (λ k. (nodes ts ++ first k ∷ []) ++ second k ∷ []) in
     let n : length (nodes ts) ≡ at = length-map ts (λ (t : Bor T). t.now) ∙ sym here in
     let left : slice_get (nodes vs) at ≡ Some p.0 =
-          ap (λ z. slice_get z at) now ∙ got_front (nodes ts ++ p.0 ∷ []) (p.1 ∷ []) at p.0 (ap (slice_get (nodes ts ++ p.0 ∷ [])) (sym n) ∙ got_next (nodes ts) p.0) in
+    ap (λ z. slice_get z at) now ∙ got_front (nodes ts ++ p.0 ∷ []) (p.1 ∷ []) at p.0 (ap (slice_get (nodes ts ++ p.0 ∷ [])) (sym n) ∙ got_next (nodes ts) p.0) in
     let m : length (nodes ts ++ p.0 ∷ []) ≡ at + 1 = length-append (nodes ts) (p.0 ∷ []) ∙ ap (λ k. k + 1) n in
     let right : slice_get (nodes vs) (at + 1) ≡ Some p.1 =
-          ap (λ z. slice_get z (at + 1)) now ∙ ap (slice_get ((nodes ts ++ p.0 ∷ []) ++ p.1 ∷ [])) (sym m) ∙ got_next (nodes ts ++ p.0 ∷ []) p.1 in
+    ap (λ z. slice_get z (at + 1)) now ∙ ap (slice_get ((nodes ts ++ p.0 ∷ []) ++ p.1 ∷ [])) (sym m) ∙ got_next (nodes ts ++ p.0 ∷ []) p.1 in
     let keep : (j : ℕ) (t : T) → slice_get (nodes ts) j ≡ Some t → slice_get (nodes vs) j ≡ Some t =
-          λ j t e. ap (λ z. slice_get z j) now ∙ got_front (nodes ts ++ p.0 ∷ []) (p.1 ∷ []) j t (got_front (nodes ts) (p.0 ∷ []) j t e) in
+    λ j t e. ap (λ z. slice_get z j) now ∙ got_front (nodes ts ++ p.0 ∷ []) (p.1 ∷ []) j t (got_front (nodes ts) (p.0 ∷ []) j t e) in
     let P : ℕ × ℕ → T × T → Type 0 = λ e q. (slice_get (nodes ts) e.0 ≡ Some q.0) × (slice_get (nodes ts) e.1 ≡ Some q.1) in
     let Q : ℕ × ℕ → T × T → Type 0 = λ e q. (slice_get (nodes vs) e.0 ≡ Some q.0) × (slice_get (nodes vs) e.1 ≡ Some q.1) in
     let old : AllZip Q es (take i ps) = AllZip_then P Q (λ e q z. (keep e.0 q.0 z.0, keep e.1 q.1 z.1)) es (take i ps) was in
@@ -55,18 +55,19 @@ module _ {T : Type 0} (A : Ghosts T) where
       let inside : j < length ts = omega arith in
       let old : slice_get ts j ≡ Some s = got_front_back ts (A.kids t) j s inside (ap (λ z. slice_get z j) (sym new) ∙ at) in
       elim (less_or_same j i below) [
-        inl lt ↦
-          let short : j < length fs = omega arith in
-          let start : slice_index gs j ≡ slice_index fs j = ap (λ z. slice_index z j) more ∙ get_or-append fs (length ts ∷ []) 0 j short in
-          ap (λ z. slice_get us (z + k)) start ∙ ap (λ z. slice_get z (slice_index fs j + k)) new
-          ∙ got_front ts (A.kids t) (slice_index fs j + k) u (was j k s u lt old kid)
-      | inr eq ↦
-          let is : s ≡ t = same_item ts i s t (ap (slice_get ts) (sym eq) ∙ old) here in
-          let start : slice_index gs j ≡ length ts =
-                ap (slice_index gs) (eq ∙ sym n) ∙ ap (λ z. slice_index z (length fs)) more
-                ∙ get_or_from_slice_get (fs ++ length ts ∷ []) (length fs) (length ts) 0 (got_next fs (length ts)) in
-          ap (λ z. slice_get us (z + k)) start ∙ ap (λ z. slice_get z (length ts + k)) new
-          ∙ got_back ts (A.kids t) k ∙ ap (λ z. slice_get (A.kids z) k) (sym is) ∙ kid ]
+        | inl lt ↦
+            let short : j < length fs = omega arith in
+            let start : slice_index gs j ≡ slice_index fs j = ap (λ z. slice_index z j) more ∙ get_or-append fs (length ts ∷ []) 0 j short in
+            ap (λ z. slice_get us (z + k)) start ∙ ap (λ z. slice_get z (slice_index fs j + k)) new
+            ∙ got_front ts (A.kids t) (slice_index fs j + k) u (was j k s u lt old kid)
+        | inr eq ↦
+            let is : s ≡ t = same_item ts i s t (ap (slice_get ts) (sym eq) ∙ old) here in
+            let start : slice_index gs j ≡ length ts =
+            ap (slice_index gs) (eq ∙ sym n) ∙ ap (λ z. slice_index z (length fs)) more
+            ∙ get_or_from_slice_get (fs ++ length ts ∷ []) (length fs) (length ts) 0 (got_next fs (length ts)) in
+            ap (λ z. slice_get us (z + k)) start ∙ ap (λ z. slice_get z (length ts + k)) new
+            ∙ got_back ts (A.kids t) k ∙ ap (λ z. slice_get (A.kids z) k) (sym is) ∙ kid
+      ]
 
   -- the terms of the nodes that are still to be looked at get smaller
   pub rest_smaller : (ts us : List T) (i : ℕ) (t : T) → A.size t ≡ 1 + total A.size (A.kids t) → slice_get ts i ≡ Some t → us ≡ ts ++ A.kids t
@@ -75,7 +76,7 @@ module _ {T : Type 0} (A : Ghosts T) where
       let within : i < length ts = slice_get_within ts i t here in
       let some : i + 1 ≤ length ts = omega arith in
       let a : total A.size (drop (i + 1) us) ≡ total A.size (drop (i + 1) ts) + total A.size (A.kids t) =
-            ap (λ z. total A.size (drop (i + 1) z)) new ∙ total_drop-append A.size ts (A.kids t) (i + 1) some in
+      ap (λ z. total A.size (drop (i + 1) z)) new ∙ total_drop-append A.size ts (A.kids t) (i + 1) some in
       omega (arith, a, law, total-drop A.size ts i t here)
 
 -- a node by a reference to its term
@@ -144,8 +145,9 @@ module _ {T : Type 0} (A : Ghosts T) (L : Laws A) (ts : List T) (old : List (ℕ
     kept = J.kept;
     known = λ x k e. let r = J.known x k e in (omega (arith, r.0), r.1);
     met = λ h z k x s below here var. elim (less_or_same k i below) [
-        inl lt ↦ J.met h z k x s lt here var
-      | inr eq ↦ let d : s ≡ t = same_item ts i s t (ap (slice_get ts) (sym eq) ∙ here) at in let e : A.var_of s ≡ A.var_of t = ap A.var_of d in absurd (cc) ];
+      | inl lt ↦ J.met h z k x s lt here var
+      | inr eq ↦ let d : s ≡ t = same_item ts i s t (ap (slice_get ts) (sym eq) ∙ here) at in let e : A.var_of s ≡ A.var_of t = ap A.var_of d in absurd (cc)
+    ];
   }
 
   -- a variable that was met before, at node j
@@ -163,15 +165,16 @@ module _ {T : Type 0} (A : Ghosts T) (L : Laws A) (ts : List T) (old : List (ℕ
         kept = λ by z. J.kept by (solves_front (value A ts by) new (j, i) (subst (Solves (value A ts by)) grown z));
         known = λ y k e. let q = J.known y k e in (omega (arith, q.0), q.1);
         met = λ h z k y u below here var.
-          let z' : Solves h (new ++ (j, i) ∷ []) = subst (Solves h) grown z in
-          elim (less_or_same k i below) [
-            inl lt ↦ J.met h (solves_front h new (j, i) z') k y u lt here var
-          | inr eq ↦
-              let d : u ≡ t = same_item ts i u t (ap (slice_get ts) (sym eq) ∙ here) at in
-              let e : A.var_of u ≡ A.var_of t = ap A.var_of d in
-              let xy : x ≡ y = cc in
-              let last : h j ≡ h i = solves_last h new (j, i) z' in
-              (j, ap f (sym xy) ∙ seen, ap h eq ∙ sym last) ];
+            let z' : Solves h (new ++ (j, i) ∷ []) = subst (Solves h) grown z in
+            elim (less_or_same k i below) [
+              | inl lt ↦ J.met h (solves_front h new (j, i) z') k y u lt here var
+              | inr eq ↦
+                  let d : u ≡ t = same_item ts i u t (ap (slice_get ts) (sym eq) ∙ here) at in
+                  let e : A.var_of u ≡ A.var_of t = ap A.var_of d in
+                  let xy : x ≡ y = cc in
+                  let last : h j ≡ h i = solves_last h new (j, i) z' in
+                  (j, ap f (sym xy) ∙ seen, ap h eq ∙ sym last)
+            ];
       }
 
   -- a variable that is met for the first time
@@ -182,18 +185,22 @@ module _ {T : Type 0} (A : Ghosts T) (L : Laws A) (ts : List T) (old : List (ℕ
     sound = J.sound;
     kept = J.kept;
     known = λ y m e. elim (same_or_not y x) [
-        inl same ↦ let mi : m ≡ i = (let a : k y ≡ k x = ap k same in cc) in (omega (arith, mi), (t, ap (slice_get ts) mi ∙ at, is ∙ ap Some (sym same)))
-      | inr apart ↦ let r = J.known y m (sym (others y apart) ∙ e) in (omega (arith, r.0), r.1) ];
+      | inl same ↦ let mi : m ≡ i = (let a : k y ≡ k x = ap k same in cc) in (omega (arith, mi), (t, ap (slice_get ts) mi ∙ at, is ∙ ap Some (sym same)))
+      | inr apart ↦ let r = J.known y m (sym (others y apart) ∙ e) in (omega (arith, r.0), r.1)
+    ];
     met = λ h z m y u below there var. elim (same_or_not y x) [
-        inl same ↦ elim (less_or_same m i below) [
-            inl lt ↦ let r = J.met h z m y u lt there var in let a : f y ≡ f x = ap f same in absurd (let b = r.1 in cc)
-          | inr eq ↦ (i, ap k same ∙ here, ap h eq) ]
+      | inl same ↦ elim (less_or_same m i below) [
+        | inl lt ↦ let r = J.met h z m y u lt there var in let a : f y ≡ f x = ap f same in absurd (let b = r.1 in cc)
+        | inr eq ↦ (i, ap k same ∙ here, ap h eq)
+      ]
       | inr apart ↦ elim (less_or_same m i below) [
-            inl lt ↦ let r = J.met h z m y u lt there var in (r.0, others y apart ∙ r.1, r.2)
-          | inr eq ↦
-              let d : u ≡ t = same_item ts i u t (ap (slice_get ts) (sym eq) ∙ there) at in
-              let e : A.var_of u ≡ A.var_of t = ap A.var_of d in
-              let xy : y ≡ x = cc in absurd (apart xy) ] ];
+        | inl lt ↦ let r = J.met h z m y u lt there var in (r.0, others y apart ∙ r.1, r.2)
+        | inr eq ↦
+            let d : u ≡ t = same_item ts i u t (ap (slice_get ts) (sym eq) ∙ there) at in
+            let e : A.var_of u ≡ A.var_of t = ap A.var_of d in
+            let xy : y ≡ x = cc in absurd (apart xy)
+      ]
+    ];
   }
 
   pub joined : (new : List (ℕ × ℕ)) (n : ℕ) (f : ℕ → Option ℕ) → Joining A ts old new n f → (h : ℕ → ℕ) → Solves h new → JoinsVariables A ts n h

@@ -63,18 +63,18 @@ module _ {T : Type 0} (A : Ghosts T) (L : Laws A) (ts : List T) (first : List �
           → IsClosing A ts first goal (slice_set ps2 other one) (es ++ pair_up (slice_index first one) (slice_index first other) (length (A.kids t')))
       one_over_closing s' t' at at' low heads goal C =
           linked_closing A L ts first goal G ps2 es a b one other s' t' at at' r2 low heads
-            (λ X f follows e. sym (to_b X f follows) ∙ sym e ∙ to_a X f follows)
-            (λ X f follows e. to_a X f follows ∙ sym e ∙ sym (to_b X f follows))
-            (shortened_closing A L ts first goal ps0 (es ++ (a, b) ∷ []) C s)
+          (λ X f follows e. sym (to_b X f follows) ∙ sym e ∙ to_a X f follows)
+          (λ X f follows e. to_a X f follows ∙ sym e ∙ sym (to_b X f follows))
+          (shortened_closing A L ts first goal ps0 (es ++ (a, b) ∷ []) C s)
 
       other_over_closing : (s' t' : T) → slice_get ts other ≡ Some s' → slice_get ts one ≡ Some t' → rank A ts other < rank A ts one → (A.var_of t' ≡ None → A.alike s' t' ≡ true)
           → (goal : List (ℕ × ℕ)) → IsClosing A ts first goal ps0 (es ++ (a, b) ∷ [])
           → IsClosing A ts first goal (slice_set ps2 one other) (es ++ pair_up (slice_index first other) (slice_index first one) (length (A.kids t')))
       other_over_closing s' t' at at' low heads goal C =
           linked_closing A L ts first goal G ps2 es a b other one s' t' at at' root_one low heads
-            (λ X f follows e. sym (to_a X f follows) ∙ e ∙ to_b X f follows)
-            (λ X f follows e. to_a X f follows ∙ e ∙ sym (to_b X f follows))
-            (shortened_closing A L ts first goal ps0 (es ++ (a, b) ∷ []) C s)
+          (λ X f follows e. sym (to_a X f follows) ∙ e ∙ to_b X f follows)
+          (λ X f follows e. to_a X f follows ∙ e ∙ sym (to_b X f follows))
+          (shortened_closing A L ts first goal ps0 (es ++ (a, b) ∷ []) C s)
 
       abbrev Equated : ℕ → ℕ → Type 0
       Equated over under = (t : T) → slice_get ts under ≡ Some t → fs ≡ es ++ pair_up (slice_index first over) (slice_index first under) (length (A.kids t))
@@ -88,7 +88,7 @@ module _ {T : Type 0} (A : Ghosts T) (L : Laws A) (ts : List T) (first : List �
           let s' = got_some ts one h in
           let t' = got_some ts other k in
           subst (λ q. IsClosing A ts first goal q fs) (sym linked) (subst (IsClosing A ts first goal (slice_set ps2 other one)) (sym (equated t'.0 t'.1))
-            (one_over_closing s'.0 t'.0 s'.1 t'.1 low (alike s'.0 t'.0 s'.1 t'.1) goal C))
+          (one_over_closing s'.0 t'.0 s'.1 t'.1 low (alike s'.0 t'.0 s'.1 t'.1) goal C))
 
       pub other_over : one < length ts → other < length ts → rank A ts other < rank A ts one → qs ≡ slice_set ps2 one other → Equated other one → Alike other one
           → (goal : List (ℕ × ℕ)) → IsClosing A ts first goal ps0 (es ++ (a, b) ∷ []) → IsClosing A ts first goal qs fs
@@ -96,7 +96,7 @@ module _ {T : Type 0} (A : Ghosts T) (L : Laws A) (ts : List T) (first : List �
           let s' = got_some ts other k in
           let t' = got_some ts one h in
           subst (λ q. IsClosing A ts first goal q fs) (sym linked) (subst (IsClosing A ts first goal (slice_set ps2 one other)) (sym (equated t'.0 t'.1))
-            (other_over_closing s'.0 t'.0 s'.1 t'.1 low (alike s'.0 t'.0 s'.1 t'.1) goal C))
+          (other_over_closing s'.0 t'.0 s'.1 t'.1 low (alike s'.0 t'.0 s'.1 t'.1) goal C))
 
       pub one_over_work : other < length ts → one ≢ other → qs ≡ slice_set ps2 other one → Equated one other → work A ts qs fs ≤ work A ts ps0 es
       one_over_work k apart linked equated =
@@ -105,7 +105,7 @@ module _ {T : Type 0} (A : Ghosts T) (L : Laws A) (ts : List T) (first : List �
           let h : other < length ps2 = omega arith in
           let w = work_linked A L ts first [] ps2 es (slice_index first one) (slice_index first other) one other t'.0 n h t'.1 r2 apart in
           let e : work A ts qs fs ≡ work A ts (slice_set ps2 other one) (es ++ pair_up (slice_index first one) (slice_index first other) (length (A.kids t'.0))) =
-                (λ i. work A ts (linked i) (equated t'.0 t'.1 i)) in
+          (λ i. work A ts (linked i) (equated t'.0 t'.1 i)) in
           omega (arith, w, e, met_work)
 
       pub other_over_work : one < length ts → one ≢ other → qs ≡ slice_set ps2 one other → Equated other one → work A ts qs fs ≤ work A ts ps0 es
@@ -115,7 +115,7 @@ module _ {T : Type 0} (A : Ghosts T) (L : Laws A) (ts : List T) (first : List �
           let h : one < length ps2 = omega arith in
           let w = work_linked A L ts first [] ps2 es (slice_index first other) (slice_index first one) other one t'.0 n h t'.1 root_one (λ e. apart (sym e)) in
           let e : work A ts qs fs ≡ work A ts (slice_set ps2 one other) (es ++ pair_up (slice_index first other) (slice_index first one) (length (A.kids t'.0))) =
-                (λ i. work A ts (linked i) (equated t'.0 t'.1 i)) in
+          (λ i. work A ts (linked i) (equated t'.0 t'.1 i)) in
           omega (arith, w, e, met_work)
 
     -- two heads that differ: no substitution solves what was asked

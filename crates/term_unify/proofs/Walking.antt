@@ -54,9 +54,9 @@ module _ {T : Type 0} (A : Ghosts T) (L : Laws A) (ts : List T) (first cls : Lis
   pub value_size : (by : ℕ → Option T) (t : T) (n : ℕ) → n < length (A.kids t) → A.size (A.apply by t) ≡ 1 + total A.size (map (A.apply by) (A.kids t))
   value_size by t n b = go (A.var_of t) refl
     where
-    go : (o : Option ℕ) → A.var_of t ≡ o → A.size (A.apply by t) ≡ 1 + total A.size (map (A.apply by) (A.kids t))
-    go None e = L.size_is (A.apply by t) ∙ ap (λ ks. 1 + total A.size ks) (L.apply_kids by t e)
-    go (Some x) e = absurd (nothing_below t x n e b)
+      go : (o : Option ℕ) → A.var_of t ≡ o → A.size (A.apply by t) ≡ 1 + total A.size (map (A.apply by) (A.kids t))
+      go None e = L.size_is (A.apply by t) ∙ ap (λ ks. 1 + total A.size ks) (L.apply_kids by t e)
+      go (Some x) e = absurd (nothing_below t x n e b)
 
   pub smaller_below : IsGraph A ts first → (by : ℕ → Option T) → Respects A ts cls by → (r n : ℕ) (t v : T) → slice_get ts r ≡ Some t → n < length (A.kids t) → value A ts by r ≡ Some v
       → (u : T) × (value A ts by (slice_index cls (slice_index first r + n)) ≡ Some u) × (A.size u < A.size v)
@@ -77,10 +77,10 @@ module _ {T : Type 0} (A : Ghosts T) (L : Laws A) (ts : List T) (first cls : Lis
       let s = value_size by t k (omega arith) in
       let n = length-map (A.kids t) (A.apply by) in
       let a = sum_total A.size (λ n. slice_index sizes (slice_index cls (slice_index first r + n))) (map (A.apply by) (A.kids t)) (suc k) (omega (arith, n, most))
-            (λ i x b here.
-              let kid = got_some (A.kids t) i (omega (arith, most, b)) in
-              let is : Some (A.apply by kid.0) ≡ Some x = sym (ap (option_map (A.apply by)) kid.1) ∙ sym (slice_get-map (A.apply by) (A.kids t) i) ∙ here in
-              W.low by R (slice_index cls (slice_index first r + i)) x (part_value G by R r i t kid.0 at kid.1 ∙ is)) in
+      (λ i x b here.
+      let kid = got_some (A.kids t) i (omega (arith, most, b)) in
+      let is : Some (A.apply by kid.0) ≡ Some x = sym (ap (option_map (A.apply by)) kid.1) ∙ sym (slice_get-map (A.apply by) (A.kids t) i) ∙ here in
+      W.low by R (slice_index cls (slice_index first r + i)) x (part_value G by R r i t kid.0 at kid.1 ∙ is)) in
       let b = total_take A.size (map (A.apply by) (A.kids t)) (suc k) in
       omega (arith, same, s, a, b)
 
@@ -98,48 +98,54 @@ module _ {T : Type 0} (A : Ghosts T) (L : Laws A) (ts : List T) (first cls : Lis
       let other : (r : ℕ) → 0 < slice_index sizes r → r ≢ root = λ r pos e. let q = ap (slice_index sizes) e in omega (arith, q, none, pos) in
       let stays : (r : ℕ) → 0 < slice_index sizes r → slice_index sizes' r ≡ slice_index sizes r = λ r pos. there r (other r pos) in
       let old : (p r : ℕ) → slice_get order' p ≡ Some r → (slice_get order p ≡ Some r) ⊎ ((p ≡ length order) × (r ≡ root)) =
-            λ p r e. got_cases order root p r (ap (λ z. slice_get z p) (sym o-is) ∙ e) in
+      λ p r e. got_cases order root p r (ap (λ z. slice_get z p) (sym o-is) ∙ e) in
       let grown : (p r : ℕ) → slice_get order p ≡ Some r → slice_get order' p ≡ Some r = λ p r e. ap (λ z. slice_get z p) o-is ∙ got_front order (root ∷ []) p r e in
       let last : slice_get order' (length order) ≡ Some root = ap (λ z. slice_get z (length order)) o-is ∙ got_next order root in
       let sums : (r k : ℕ) → ((m : ℕ) → m < k → 0 < slice_index sizes (slice_index cls (slice_index first r + m)))
-            → sum_below (λ m. slice_index sizes (slice_index cls (slice_index first r + m))) k ≡ sum_below (λ m. slice_index sizes' (slice_index cls (slice_index first r + m))) k =
-            λ r k pos. sum_same _ _ k (λ m b. sym (stays (slice_index cls (slice_index first r + m)) (pos m b))) in
+      → sum_below (λ m. slice_index sizes (slice_index cls (slice_index first r + m))) k ≡ sum_below (λ m. slice_index sizes' (slice_index cls (slice_index first r + m))) k =
+      λ r k pos. sum_same _ _ k (λ m b. sym (stays (slice_index cls (slice_index first r + m)) (pos m b))) in
       record {
         sized = ap length s-is ∙ length-set sizes root size ∙ n;
         seen = λ r pos. elim (same_or_not r root) [
-            inl e ↦ (length order, last ∙ ap Some (sym e))
-          | inr d ↦ let c = there r d in let q = W.seen r (omega (arith, c, pos)) in (q.0, grown q.0 r q.1) ];
+          | inl e ↦ (length order, last ∙ ap Some (sym e))
+          | inr d ↦ let c = there r d in let q = W.seen r (omega (arith, c, pos)) in (q.0, grown q.0 r q.1)
+        ];
         known = λ p r e. elim (old p r e) [
-            inl o ↦ let k = W.known p r o in let c = stays r k.0 in (omega (arith, c, k.0), k.1, k.2)
+          | inl o ↦ let k = W.known p r o in let c = stays r k.0 in (omega (arith, c, k.0), k.1, k.2)
           | inr l ↦
               let c = ap (slice_index sizes') l.1 ∙ here in
-              (omega (arith, c, sum), subst (λ m. m < length ts) (sym l.1) inside, ap (slice_index cls) l.1 ∙ self ∙ sym l.1) ];
+              (omega (arith, c, sum), subst (λ m. m < length ts) (sym l.1) inside, ap (slice_index cls) l.1 ∙ self ∙ sym l.1)
+        ];
         once = λ p q r e f. elim (old p r e) [
-            inl o ↦ elim (old q r f) [ inl o' ↦ W.once p q r o o' | inr l ↦ absurd (other r (W.known p r o).0 l.1) ]
-          | inr l ↦ elim (old q r f) [ inl o' ↦ absurd (other r (W.known q r o').0 l.1) | inr l' ↦ l.0 ∙ sym l'.0 ] ];
+          | inl o ↦ elim (old q r f) [ inl o' ↦ W.once p q r o o' | inr l ↦ absurd (other r (W.known p r o).0 l.1) ]
+          | inr l ↦ elim (old q r f) [ inl o' ↦ absurd (other r (W.known q r o').0 l.1) | inr l' ↦ l.0 ∙ sym l'.0 ]
+        ];
         size = λ p r u e at'. elim (old p r e) [
-            inl o ↦
+          | inl o ↦
               let k = W.known p r o in
               stays r k.0 ∙ W.size p r u o at'
               ∙ ap (λ m. 1 + m) (sums r (length (A.kids u)) (λ m b. let q = W.parts p r m u o at' b in (W.known q.0 _ q.2).0))
           | inr l ↦
               let d : u ≡ t = same_item ts root u t (ap (slice_get ts) (sym l.1) ∙ at') at in
               ap (slice_index sizes') l.1 ∙ here ∙ sum ∙ ap (λ m. 1 + m) (sums root (length (A.kids t)) done)
-              ∙ (λ i. 1 + sum_below (λ m. slice_index sizes' (slice_index cls (slice_index first (sym l.1 i) + m))) (length (A.kids (sym d i)))) ];
+              ∙ (λ i. 1 + sum_below (λ m. slice_index sizes' (slice_index cls (slice_index first (sym l.1 i) + m))) (length (A.kids (sym d i))))
+        ];
         parts = λ p r m u e at' b. elim (old p r e) [
-            inl o ↦ let q = W.parts p r m u o at' b in (q.0, q.1, grown q.0 _ q.2)
+          | inl o ↦ let q = W.parts p r m u o at' b in (q.0, q.1, grown q.0 _ q.2)
           | inr l ↦
               let d : u ≡ t = same_item ts root u t (ap (slice_get ts) (sym l.1) ∙ at') at in
               let dn = ap (λ v. length (A.kids v)) d in
               let q = W.seen (slice_index cls (slice_index first root + m)) (done m (omega (arith, dn, b))) in
               let w = slice_get_within order q.0 _ q.1 in
-              (q.0, omega (arith, w, l.0), grown q.0 _ q.1 ∙ ap (λ v. Some (slice_index cls (slice_index first v + m))) (sym l.1)) ];
+              (q.0, omega (arith, w, l.0), grown q.0 _ q.1 ∙ ap (λ v. Some (slice_index cls (slice_index first v + m))) (sym l.1))
+        ];
         low = λ by R r v e. elim (same_or_not r root) [
-            inl same ↦
+          | inl same ↦
               let a = low_sum sizes order G W by R root (length (A.kids t)) t v at (ap (value A ts by) (sym same) ∙ e) (omega arith) in
               let c = ap (slice_index sizes') same ∙ here in
               omega (arith, a, c, sum)
-          | inr d ↦ let c = there r d in let a = W.low by R r v e in omega (arith, a, c) ];
+          | inr d ↦ let c = there r d in let a = W.low by R r v e in omega (arith, a, c)
+        ];
       }
 
 -- where a part of a node stands
@@ -167,8 +173,9 @@ pub done_more : (first cls sizes sizes' : List ℕ) (r k : ℕ) → ((m : ℕ) �
     → (n : ℕ) → n < k + 1 → 0 < slice_index sizes' (slice_index cls (slice_index first r + n))
 done_more first cls sizes sizes' r k kept done new n b =
     elim (less_or_same n k b) [
-      inl lt ↦ let d = done n lt in let e = kept (slice_index cls (slice_index first r + n)) d in omega (arith, d, e)
-    | inr eq ↦ subst (λ m. 0 < slice_index sizes' (slice_index cls (slice_index first r + m))) (sym eq) new ]
+      | inl lt ↦ let d = done n lt in let e = kept (slice_index cls (slice_index first r + n)) d in omega (arith, d, e)
+      | inr eq ↦ subst (λ m. 0 < slice_index sizes' (slice_index cls (slice_index first r + m))) (sym eq) new
+    ]
 
 pub size_more : (first cls sizes sizes' : List ℕ) (r k size x : ℕ) → ((m : ℕ) → 0 < slice_index sizes m → slice_index sizes' m ≡ slice_index sizes m)
     → ((n : ℕ) → n < k → 0 < slice_index sizes (slice_index cls (slice_index first r + n)))
@@ -177,8 +184,8 @@ pub size_more : (first cls sizes sizes' : List ℕ) (r k size x : ℕ) → ((m :
 size_more first cls sizes sizes' r k size x kept done is now =
     let a = sum_kept first cls sizes sizes' r k kept done in
     let b : sum_below (λ n. slice_index sizes' (slice_index cls (slice_index first r + n))) (k + 1)
-          ≡ sum_below (λ n. slice_index sizes' (slice_index cls (slice_index first r + n))) k + slice_index sizes' (slice_index cls (slice_index first r + k)) =
-          ap (sum_below (λ n. slice_index sizes' (slice_index cls (slice_index first r + n)))) (add-one k) in
+    ≡ sum_below (λ n. slice_index sizes' (slice_index cls (slice_index first r + n))) k + slice_index sizes' (slice_index cls (slice_index first r + k)) =
+    ap (sum_below (λ n. slice_index sizes' (slice_index cls (slice_index first r + n)))) (add-one k) in
     omega (arith, a, b, is, now)
 
 module _ {T : Type 0} (A : Ghosts T) (L : Laws A) (ts : List T) (first cls : List ℕ) (G : IsGraph A ts first) (by : ℕ → Option T) (R : Respects A ts cls by) where
@@ -193,14 +200,15 @@ module _ {T : Type 0} (A : Ghosts T) (L : Laws A) (ts : List T) (first cls : Lis
       let u = q.0 in
       let less = q.2 in
       clash u (ap (λ k. value A ts by (slice_index cls (k + at))) start ∙ q.1) (omega (arith, less, small))
-        (λ r w on at-w. elim (same_or_not r root) [
-            inl e ↦
-              let same : Some v ≡ Some w = sym at-v ∙ ap (value A ts by) (sym e) ∙ at-w in
-              let vw : v ≡ w = cc in
-              let z = ap A.size vw in omega (arith, less, z)
-          | inr d ↦
-              let was : slice_get old r ≡ Some true = sym (got_set_other old root r true d) ∙ ap (λ z. slice_get z r) (sym marked) ∙ on in
-              let k = opens r w was at-w in omega (arith, less, k) ])
+      (λ r w on at-w. elim (same_or_not r root) [
+        | inl e ↦
+            let same : Some v ≡ Some w = sym at-v ∙ ap (value A ts by) (sym e) ∙ at-w in
+            let vw : v ≡ w = cc in
+            let z = ap A.size vw in omega (arith, less, z)
+        | inr d ↦
+            let was : slice_get old r ≡ Some true = sym (got_set_other old root r true d) ∙ ap (λ z. slice_get z r) (sym marked) ∙ on in
+            let k = opens r w was at-w in omega (arith, less, k)
+      ])
 
   pub sum_clash : (sizes sizes' order' : List ℕ) (root at idx size limit x : ℕ) (t v : T) → slice_get ts root ≡ Some t → at < length (A.kids t) → idx ≡ slice_index first root
       → value A ts by root ≡ Some v → A.size v ≤ limit → IsWalk A ts first cls sizes' order'
@@ -255,11 +263,13 @@ module _ {T : Type 0} (A : Ghosts T) (L : Laws A) (ts : List T) where
   ordered_other cls sizes limit n t at none O = record {
     small = O.small;
     all = λ i x u b at' var. elim (less_or_same i n b) [
-        inl lt ↦ O.all i x u lt at' var
-      | inr eq ↦ let d : u ≡ t = same_item ts n u t (ap (slice_get ts) (sym eq) ∙ at') at in let e = ap A.var_of d in absurd (cc) ];
+      | inl lt ↦ O.all i x u lt at' var
+      | inr eq ↦ let d : u ≡ t = same_item ts n u t (ap (slice_get ts) (sym eq) ∙ at') at in let e = ap A.var_of d in absurd (cc)
+    ];
     stands = λ i x u s b at' var at-s. elim (less_or_same i n b) [
-        inl lt ↦ O.stands i x u s lt at' var at-s
-      | inr eq ↦ let d : u ≡ t = same_item ts n u t (ap (slice_get ts) (sym eq) ∙ at') at in let e = ap A.var_of d in absurd (cc) ];
+      | inl lt ↦ O.stands i x u s lt at' var at-s
+      | inr eq ↦ let d : u ≡ t = same_item ts n u t (ap (slice_get ts) (sym eq) ∙ at') at in let e = ap A.var_of d in absurd (cc)
+    ];
   }
 
   pub ordered_more : (cls sizes sizes' : List ℕ) (limit n : ℕ) (s : T) → slice_get ts (slice_index cls n) ≡ Some s → A.stands s ≡ true
@@ -268,40 +278,42 @@ module _ {T : Type 0} (A : Ghosts T) (L : Laws A) (ts : List T) where
   ordered_more cls sizes sizes' limit n s at may small kept done O = record {
     small = small;
     all = λ i x u b at' var. elim (less_or_same i n b) [
-        inl lt ↦ let p = O.all i x u lt at' var in let k = kept (slice_index cls i) p in omega (arith, p, k)
-      | inr eq ↦ subst (λ m. 0 < slice_index sizes' (slice_index cls m)) (sym eq) done ];
+      | inl lt ↦ let p = O.all i x u lt at' var in let k = kept (slice_index cls i) p in omega (arith, p, k)
+      | inr eq ↦ subst (λ m. 0 < slice_index sizes' (slice_index cls m)) (sym eq) done
+    ];
     stands = λ i x u s' b at' var at-s. elim (less_or_same i n b) [
-        inl lt ↦ O.stands i x u s' lt at' var at-s
-      | inr eq ↦ let d : s' ≡ s = same_item ts (slice_index cls n) s' s (ap (λ m. slice_get ts (slice_index cls m)) (sym eq) ∙ at-s) at in ap A.stands d ∙ may ];
+      | inl lt ↦ O.stands i x u s' lt at' var at-s
+      | inr eq ↦ let d : s' ≡ s = same_item ts (slice_index cls n) s' s (ap (λ m. slice_get ts (slice_index cls m)) (sym eq) ∙ at-s) at in ap A.stands d ∙ may
+    ];
   }
 
   -- the value of a variable under a substitution that is allowed
   pub allowed_value : (limit : ℕ) (by : ℕ → Option T) (t : T) (x : ℕ) → 1 ≤ limit → IsAdmissible A limit by → A.var_of t ≡ Some x → (A.size (A.apply by t) ≤ limit) × (A.stands (A.apply by t) ≡ true)
   allowed_value limit by t x some ok var = go (by x) refl
     where
-    go : (o : Option T) → by x ≡ o → (A.size (A.apply by t) ≤ limit) × (A.stands (A.apply by t) ≡ true)
-    go None e =
-        let same : A.apply by t ≡ t = L.apply_var by t x var ∙ ap (λ o. unwrap_or o t) e in
-        let a = ap A.size same in let b = L.size_is t in let c = ap (total A.size) (L.var_kids t x var) in
-        (omega (arith, a, b, c, some), ap A.stands same ∙ L.var_stands t x var)
-    go (Some u) e =
-        let same : A.apply by t ≡ u = L.apply_var by t x var ∙ ap (λ o. unwrap_or o t) e in
-        let a = ap A.size same in let r = ok x u e in
-        (omega (arith, a, r.0), ap A.stands same ∙ r.1)
+      go : (o : Option T) → by x ≡ o → (A.size (A.apply by t) ≤ limit) × (A.stands (A.apply by t) ≡ true)
+      go None e =
+          let same : A.apply by t ≡ t = L.apply_var by t x var ∙ ap (λ o. unwrap_or o t) e in
+          let a = ap A.size same in let b = L.size_is t in let c = ap (total A.size) (L.var_kids t x var) in
+          (omega (arith, a, b, c, some), ap A.stands same ∙ L.var_stands t x var)
+      go (Some u) e =
+          let same : A.apply by t ≡ u = L.apply_var by t x var ∙ ap (λ o. unwrap_or o t) e in
+          let a = ap A.size same in let r = ok x u e in
+          (omega (arith, a, r.0), ap A.stands same ∙ r.1)
 
   pub stands_before : (by : ℕ → Option T) (s : T) → A.stands (A.apply by s) ≡ true → A.stands s ≡ true
   stands_before by s may = go (A.var_of s) refl
     where
-    go : (o : Option ℕ) → A.var_of s ≡ o → A.stands s ≡ true
-    go None e = sym (L.alike_stands (A.apply by s) s (L.apply_alike by s e)) ∙ may
-    go (Some x) e = L.var_stands s x e
+      go : (o : Option ℕ) → A.var_of s ≡ o → A.stands s ≡ true
+      go None e = sym (L.alike_stands (A.apply by s) s (L.apply_alike by s e)) ∙ may
+      go (Some x) e = L.var_stands s x e
 
   module _ (first cls : List ℕ) (by : ℕ → Option T) (R : Respects A ts cls by) (limit : ℕ) (some : 1 ≤ limit) (ok : IsAdmissible A limit by)
       (n x : ℕ) (t s : T) (at : slice_get ts n ≡ Some t) (var : A.var_of t ≡ Some x) (at-s : slice_get ts (slice_index cls n) ≡ Some s) where
     same_value : A.apply by t ≡ A.apply by s
     same_value =
         let e : Some (A.apply by t) ≡ Some (A.apply by s) =
-              sym (ap (option_map (A.apply by)) at) ∙ R n (slice_get_within ts n t at) ∙ ap (option_map (A.apply by)) at-s in cc
+        sym (ap (option_map (A.apply by)) at) ∙ R n (slice_get_within ts n t at) ∙ ap (option_map (A.apply by)) at-s in cc
 
     pub stands_clash : A.stands s ≡ false → ⊥
     stands_clash off =

@@ -22,12 +22,12 @@ loop-at-preserved g c =
     let within = slice_get_within (nodes c.loop-at.terms.items) c.loop-at.at _ at in
     let new = c.in_ok-add_parts.ensures in
     let start : c.len-in-loop-at.result ≡ length (nodes c.loop-at.terms.items) =
-          c.len-in-loop-at.ensures ∙ c.loop-at.terms.ok.0 ∙ sym (length-map c.loop-at.terms.items _) in
+    c.len-in-loop-at.ensures ∙ c.loop-at.terms.ok.0 ∙ sym (length-map c.loop-at.terms.items _) in
     record {
       all = longer _ _ _ _ c.loop-at.invariant.all c.in_ok-push.ensures.items;
       some = omega (arith, within, ap length new, length-append (nodes c.loop-at.terms.items) (g.T.Term.kids c.index-term.result.now.now));
       kept = keeps_more _ _ _ _ c.loop-at.invariant.kept new;
       parts =
-        parts_added g.T.Term (nodes c.loop-at.terms.items) _ c.loop-at.first.items _ c.loop-at.at _ c.loop-at.invariant.parts c.loop-at.invariant.all
-        (c.in_ok-push.ensures.items ∙ ap (λ z. c.loop-at.first.items ++ z ∷ []) start) at new;
+          parts_added g.T.Term (nodes c.loop-at.terms.items) _ c.loop-at.first.items _ c.loop-at.at _ c.loop-at.invariant.parts c.loop-at.invariant.all
+          (c.in_ok-push.ensures.items ∙ ap (λ z. c.loop-at.first.items ++ z ∷ []) start) at new;
     }

@@ -32,31 +32,31 @@ loop-node-preserved g c =
     let cur = c.loop-node.done.list in
     let prev = c.loop-node.invariant in
     elim c.match-as_var.branch [
-      in-Some+then-not-same_head+then-is_none+in_ok-value+in_ok-push w ↦
-        let x = w.in-Some.variable in
-        let var : g.T.Term.var_of t ≡ Some x = sym w.in-Some.ensures in
-        let off : g.T.Term.alike s t ≡ false = sym w.same_head.ensures ∙ w.if-not-same_head.true in
-        let other : g.T.Term.var_of s ≢ Some x = λ e. (let yes : g.T.Term.alike s t ≡ true = ap (g.T.Term.alike s) (sym (L.var_same s t x e var)) ∙ L.alike_self s in cc) in
-        let gone : is_some w.get.result ≡ false = w.is_none.ensures ∙ ap not w.if-is_none.true in
-        let none : first cur x ≡ None = sym w.get.ensures ∙ ap option_copied (none_of w.get.result gone) in
-        subst (λ z. Binds g.T.Term ts firsts c.args.root c.args.group.now (n + 1) old z) (sym (ap (λ d. d.list) w.done-is))
+      | in-Some+then-not-same_head+then-is_none+in_ok-value+in_ok-push w ↦
+          let x = w.in-Some.variable in
+          let var : g.T.Term.var_of t ≡ Some x = sym w.in-Some.ensures in
+          let off : g.T.Term.alike s t ≡ false = sym w.same_head.ensures ∙ w.if-not-same_head.true in
+          let other : g.T.Term.var_of s ≢ Some x = λ e. (let yes : g.T.Term.alike s t ≡ true = ap (g.T.Term.alike s) (sym (L.var_same s t x e var)) ∙ L.alike_self s in cc) in
+          let gone : is_some w.get.result ≡ false = w.is_none.ensures ∙ ap not w.if-is_none.true in
+          let none : first cur x ≡ None = sym w.get.ensures ∙ ap option_copied (none_of w.get.result gone) in
+          subst (λ z. Binds g.T.Term ts firsts c.args.root c.args.group.now (n + 1) old z) (sym (ap (λ d. d.list) w.done-is))
           (binds_added g.T.Term L ts firsts c.args.root c.args.group.now n i x old cur w.push.new.self.list t s item at var at-s none other
-            (w.in_ok-push.ensures.ok ∙ ap (λ v. cur ++ (x, v) ∷ []) w.in_ok-value.ensures) prev)
-    | in-Some+else-not-same_head w ↦
-        let x = w.in-Some.variable in
-        let var : g.T.Term.var_of t ≡ Some x = sym w.in-Some.ensures in
-        subst (λ z. Binds g.T.Term ts firsts c.args.root c.args.group.now (n + 1) old z) (sym (ap (λ d. d.list) w.done-is))
+          (w.in_ok-push.ensures.ok ∙ ap (λ v. cur ++ (x, v) ∷ []) w.in_ok-value.ensures) prev)
+      | in-Some+else-not-same_head w ↦
+          let x = w.in-Some.variable in
+          let var : g.T.Term.var_of t ≡ Some x = sym w.in-Some.ensures in
+          subst (λ z. Binds g.T.Term ts firsts c.args.root c.args.group.now (n + 1) old z) (sym (ap (λ d. d.list) w.done-is))
           (elim w.else-not-same_head.branch [
-            else-not-same_head-via-then-not-same_head+else-is_none w' ↦
-              let there : is_some w'.get.result ≡ true = w'.is_none.ensures ∙ ap not w'.if-is_none.false in
-              let u = some_of w'.get.result there in
-              binds_listed g.T.Term L ts firsts c.args.root c.args.group.now n i x old cur t u.0.now item at var (sym w'.get.ensures ∙ ap option_copied u.1) prev
-          | else-not-same_head-via-else-not-same_head w' ↦
-              let on : g.T.Term.alike s t ≡ true = sym w.same_head.ensures ∙ w'.if-not-same_head.false in
-              binds_own g.T.Term L ts firsts c.args.root c.args.group.now n i x old cur t s item at var at-s (L.alike_var s t on ∙ var) prev
+            | else-not-same_head-via-then-not-same_head+else-is_none w' ↦
+                let there : is_some w'.get.result ≡ true = w'.is_none.ensures ∙ ap not w'.if-is_none.false in
+                let u = some_of w'.get.result there in
+                binds_listed g.T.Term L ts firsts c.args.root c.args.group.now n i x old cur t u.0.now item at var (sym w'.get.ensures ∙ ap option_copied u.1) prev
+            | else-not-same_head-via-else-not-same_head w' ↦
+                let on : g.T.Term.alike s t ≡ true = sym w.same_head.ensures ∙ w'.if-not-same_head.false in
+                binds_own g.T.Term L ts firsts c.args.root c.args.group.now n i x old cur t s item at var at-s (L.alike_var s t on ∙ var) prev
           ])
-    | in_default w ↦
-        subst (λ z. Binds g.T.Term ts firsts c.args.root c.args.group.now (n + 1) old z) (sym (ap (λ d. d.list) w.done-is))
+      | in_default w ↦
+          subst (λ z. Binds g.T.Term ts firsts c.args.root c.args.group.now (n + 1) old z) (sym (ap (λ d. d.list) w.done-is))
           (binds_other g.T.Term L ts firsts c.args.root c.args.group.now n i old cur t item at (sym w.in_default.ensures) prev)
     ]
 

@@ -54,13 +54,13 @@ loop-root-preserved g c =
     let group : slice_get c.args.groups.now.items root ≡ Some v = slice_get-get_or c.args.groups.now.items root v h ∙ ap Some (sym c.index.ensures) in
     let items = c.as_slice.ensures.value in
     let r = c.in_ok-bind.ensures c.args.classes.now c.requires.order.sizes c.args.order.now p c.requires.classes c.requires.joined c.requires.graph W place
-          (λ k i at. (c.requires.groups.known root k i v group (ap (λ z. slice_get z k) (sym items) ∙ at)).0) c.loop-root.invariant in
+    (λ k i at. (c.requires.groups.known root k i v group (ap (λ z. slice_get z k) (sym items) ∙ at)).0) c.loop-root.invariant in
     binding_next g.T.Term ts c.args.classes.now c.args.order.now p root c.bind.new.done.list place r.0
-      (λ i x t s at var mine at-s.
-        let w = slice_get_within ts i t at in
-        let q = c.requires.groups.whole i x t (omega (arith, w, n)) at var in
-        let same : q.0 ≡ v = same_item c.args.groups.now.items root q.0 v (ap (slice_get c.args.groups.now.items) (sym mine) ∙ q.2) group in
-        r.1 q.1 i x t s (ap (λ z. slice_get z q.1) items ∙ ap (λ z. slice_get z.items q.1) (sym same) ∙ q.3) at var at-s)
+    (λ i x t s at var mine at-s.
+    let w = slice_get_within ts i t at in
+    let q = c.requires.groups.whole i x t (omega (arith, w, n)) at var in
+    let same : q.0 ≡ v = same_item c.args.groups.now.items root q.0 v (ap (slice_get c.args.groups.now.items) (sym mine) ∙ q.2) group in
+    r.1 q.1 i x t s (ap (λ z. slice_get z q.1) items ∙ ap (λ z. slice_get z.items q.1) (sym same) ∙ q.3) at var at-s)
 
 pub returns : goal.returns
 returns g c =

@@ -26,8 +26,8 @@ loop-a-preserved g c =
     let ts = nodes c.args.self.now.terms.items in
     let first = c.args.self.now.first.items in
     let C = c.in_ok-join.ensures.closing c.args.equal.items
-          (subst (λ ps. IsClosing g.T.Term ts first c.args.equal.items ps (c.pop.new.self.items ++ (c.in-Some.a, c.in-Some.b) ∷ [])) (sym c.deref_mut.ensures.value)
-            (subst (IsClosing g.T.Term ts first c.args.equal.items c.loop-a.parent.items) c.in-Some.ensures.items c.loop-a.invariant)) in
+    (subst (λ ps. IsClosing g.T.Term ts first c.args.equal.items ps (c.pop.new.self.items ++ (c.in-Some.a, c.in-Some.b) ∷ [])) (sym c.deref_mut.ensures.value)
+    (subst (IsClosing g.T.Term ts first c.args.equal.items c.loop-a.parent.items) c.in-Some.ensures.items c.loop-a.invariant)) in
     let n = C.forest.all in
     let m = c.loop-a.invariant.forest.all in
     let e : c.loop-a.parent.len ≡ length c.join.new.parent = c.loop-a.parent.ok.0 ∙ m ∙ sym n in

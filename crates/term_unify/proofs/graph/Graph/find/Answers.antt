@@ -29,6 +29,6 @@ loop-parent-preserved g c =
       inside = subst (λ n. slice_index ps (slice_index ps at) < n) (sym (length-set ps at (slice_index ps (slice_index ps at)))) w;
       shortened = halved at h c.loop-parent-test.true s;
       leads =
-        leads_along c.args.parent.now c.loop-parent.invariant.leads
+          leads_along c.args.parent.now c.loop-parent.invariant.leads
           (leads_along c.args.parent.now (link_leads g.T.Term ts c.args.parent.now c.requires.forest s at h) (link_leads g.T.Term ts c.args.parent.now c.requires.forest s (slice_index ps at) v));
     }

@@ -19,19 +19,19 @@ loop-node-preserved g c =
     let h : c.loop-node.node < length c.args.self.now.terms.items = omega (arith, n, c.requires.all, c.loop-node-test.true) in
     let at = node_at c.args.self.now.terms.items c.loop-node.node c.index.result.now h c.index.ensures in
     elim c.if-is_some.branch [
-      then-is_some+in_ok-push-2 w ↦
-        let is : is_some (g.T.Term.var_of c.index.result.now.now) ≡ true = ap is_some (sym c.as_var.ensures) ∙ sym c.is_some.ensures ∙ w.if-is_some.true in
-        let var = some_of (g.T.Term.var_of c.index.result.now.now) is in
-        let w1 = c.requires.within c.loop-node.node (omega (arith, n, h)) in
-        let hc : slice_index c.args.classes.now c.loop-node.node < length c.loop-node.groups.items = omega (arith, w1, c.loop-node.invariant.all) in
-        let old : slice_get c.loop-node.groups.items (slice_index c.args.classes.now c.loop-node.node) ≡ Some w.index_mut-group.result.now =
-              slice_get-get_or c.loop-node.groups.items (slice_index c.args.classes.now c.loop-node.node) w.index_mut-group.result.now hc ∙ ap Some (sym w.index_mut-group.ensures.value) in
-        groups_more g.T.Term (laws_of g.met.T.Term) ts c.args.classes.now c.loop-node.node var.0 c.loop-node.groups.items c.if-is_some.groups.items w.index_mut-group.result.now
+      | then-is_some+in_ok-push-2 w ↦
+          let is : is_some (g.T.Term.var_of c.index.result.now.now) ≡ true = ap is_some (sym c.as_var.ensures) ∙ sym c.is_some.ensures ∙ w.if-is_some.true in
+          let var = some_of (g.T.Term.var_of c.index.result.now.now) is in
+          let w1 = c.requires.within c.loop-node.node (omega (arith, n, h)) in
+          let hc : slice_index c.args.classes.now c.loop-node.node < length c.loop-node.groups.items = omega (arith, w1, c.loop-node.invariant.all) in
+          let old : slice_get c.loop-node.groups.items (slice_index c.args.classes.now c.loop-node.node) ≡ Some w.index_mut-group.result.now =
+          slice_get-get_or c.loop-node.groups.items (slice_index c.args.classes.now c.loop-node.node) w.index_mut-group.result.now hc ∙ ap Some (sym w.index_mut-group.ensures.value) in
+          groups_more g.T.Term (laws_of g.met.T.Term) ts c.args.classes.now c.loop-node.node var.0 c.loop-node.groups.items c.if-is_some.groups.items w.index_mut-group.result.now
           w.push-then-is_some.new.self c.index.result.now.now at var.1 old (ap (λ (v : Vec (Vec ℕ Global) Global). v.items) w.groups-is) w.in_ok-push-2.ensures.items c.loop-node.invariant
-    | else-is_some w ↦
-        let is : is_some (g.T.Term.var_of c.index.result.now.now) ≡ false = ap is_some (sym c.as_var.ensures) ∙ sym c.is_some.ensures ∙ w.if-is_some.false in
-        let none = none_of (g.T.Term.var_of c.index.result.now.now) is in
-        subst (λ (v : Vec (Vec ℕ Global) Global). AreGroups g.T.Term ts c.args.classes.now (c.loop-node.node + 1) v.items) (sym w.groups-is)
+      | else-is_some w ↦
+          let is : is_some (g.T.Term.var_of c.index.result.now.now) ≡ false = ap is_some (sym c.as_var.ensures) ∙ sym c.is_some.ensures ∙ w.if-is_some.false in
+          let none = none_of (g.T.Term.var_of c.index.result.now.now) is in
+          subst (λ (v : Vec (Vec ℕ Global) Global). AreGroups g.T.Term ts c.args.classes.now (c.loop-node.node + 1) v.items) (sym w.groups-is)
           (groups_other g.T.Term (laws_of g.met.T.Term) ts c.args.classes.now c.loop-node.node c.loop-node.groups.items c.index.result.now.now at none c.loop-node.invariant)
     ]
 

@@ -33,7 +33,7 @@ loop-node-preserved g c =
       shortened = shortened_along old I.shortened c.find-root.ensures.shortened;
       all = longer _ _ _ _ I.all new;
       leads =
-        each_more (λ i x. Leads old i x) c.loop-node.labels.items _ c.find-root.result c.loop-node.node I.all new I.leads
+          each_more (λ i x. Leads old i x) c.loop-node.labels.items _ c.find-root.result c.loop-node.node I.all new I.leads
           (leads_back g.T.Term ts old c.requires I.shortened c.find-root.ensures.leads);
       root = each_more (λ i x. slice_index old x ≡ x) c.loop-node.labels.items _ c.find-root.result c.loop-node.node I.all new I.root root;
       within = each_more (λ i x. x < length old) c.loop-node.labels.items _ c.find-root.result c.loop-node.node I.all new I.within (omega (arith, n, c.find-root.ensures.inside));
