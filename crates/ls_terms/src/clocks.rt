@@ -1,5 +1,9 @@
 //! The terms of clocks: clocks as types with abstract names (after Colaço and Pouzet 2003).
 
+ghost use Rattle.std.specs.Prelude.{◌≡◌, map, IfOk};
+ghost use Rattle.term_unify.specs.Terms.{first};
+ghost use Rattle.ls_terms.specs.Clocks as spec;
+
 use ls_base::{Boxed, List, NoMemory, NoteCopy};
 use std::alloc::Global;
 use term_unify::{Subst, Term};
@@ -15,26 +19,47 @@ pub enum ClockTerm {
 }
 
 impl Term for ClockTerm {
-    ghost size = { ? };
-    ghost alike = { ? };
-    ghost kids = { ? };
-    ghost var_of = { ? };
-    ghost stands = { ? };
-    ghost apply = { ? };
-    ghost size_is = { ? };
-    ghost alike_self = { ? };
-    ghost alike_back = { ? };
-    ghost alike_along = { ? };
-    ghost alike_kids = { ? };
-    ghost alike_same = { ? };
-    ghost alike_var = { ? };
-    ghost alike_stands = { ? };
-    ghost var_same = { ? };
-    ghost var_kids = { ? };
-    ghost var_stands = { ? };
-    ghost apply_var = { ? };
-    ghost apply_alike = { ? };
-    ghost apply_kids = { ? };
+    ghost use Rattle.ls_terms.specs.Clocks as spec;
+
+    ghost size = { spec.size };
+
+    ghost alike = { spec.alike };
+
+    ghost kids = { spec.kids };
+
+    ghost var_of = { spec.var_of };
+
+    ghost stands = { spec.stands };
+
+    ghost apply = { spec.apply };
+
+    ghost size_is = { spec.size_is };
+
+    ghost alike_self = { spec.alike_self };
+
+    ghost alike_back = { spec.alike_back };
+
+    ghost alike_along = { spec.alike_along };
+
+    ghost alike_kids = { spec.alike_kids };
+
+    ghost alike_same = { spec.alike_same };
+
+    ghost alike_var = { spec.alike_var };
+
+    ghost alike_stands = { spec.alike_stands };
+
+    ghost var_same = { spec.var_same };
+
+    ghost var_kids = { spec.var_kids };
+
+    ghost var_stands = { spec.var_stands };
+
+    ghost apply_var = { spec.apply_var };
+
+    ghost apply_alike = { spec.apply_alike };
+
+    ghost apply_kids = { spec.apply_kids };
 
     fn as_var(&self) -> Option<u32> {
         match self {
@@ -86,7 +111,9 @@ fn put_all(
     all: &[ClockTerm],
     alloc: Global,
     by: &Subst<ClockTerm>,
-) -> Result<List<ClockTerm>, NoMemory> {
+) -> Result<List<ClockTerm>, NoMemory>
+    ensures { IfOk result (λ r. r ≡ map (spec.apply (first by.now.list)) all.now) }
+{
     let mut done = List::new(alloc);
     for t in all {
         done.push(put(t, alloc, by)?)?;
@@ -95,7 +122,9 @@ fn put_all(
 }
 
 #[cycle(put)]
-fn put(t: &ClockTerm, alloc: Global, by: &Subst<ClockTerm>) -> Result<ClockTerm, NoMemory> {
+fn put(t: &ClockTerm, alloc: Global, by: &Subst<ClockTerm>) -> Result<ClockTerm, NoMemory>
+    ensures { IfOk result (λ r. r ≡ spec.apply (first by.now.list) t.now) }
+{
     match t {
         ClockTerm::Var(x) => match by.get(*x) {
             Some(value) => value.copy(alloc),
@@ -115,7 +144,9 @@ fn put(t: &ClockTerm, alloc: Global, by: &Subst<ClockTerm>) -> Result<ClockTerm,
 }
 
 #[cycle(copy)]
-fn copy_all(all: &[ClockTerm], alloc: Global) -> Result<List<ClockTerm>, NoMemory> {
+fn copy_all(all: &[ClockTerm], alloc: Global) -> Result<List<ClockTerm>, NoMemory>
+    ensures { IfOk result (λ r. r ≡ all.now) }
+{
     let mut done = List::new(alloc);
     for t in all {
         done.push(t.copy(alloc)?)?;

@@ -1,5 +1,9 @@
 //! The terms of types (after Damas and Milner 1982).
 
+ghost use Rattle.std.specs.Prelude.{◌≡◌, map, IfOk};
+ghost use Rattle.term_unify.specs.Terms.{first};
+ghost use Rattle.ls_terms.specs.Types as spec;
+
 use ls_base::{Boxed, List, NoMemory, NoteCopy};
 use std::alloc::Global;
 use term_unify::{Subst, Term};
@@ -27,26 +31,47 @@ pub enum TypeTerm {
 }
 
 impl Term for TypeTerm {
-    ghost size = { ? };
-    ghost alike = { ? };
-    ghost kids = { ? };
-    ghost var_of = { ? };
-    ghost stands = { ? };
-    ghost apply = { ? };
-    ghost size_is = { ? };
-    ghost alike_self = { ? };
-    ghost alike_back = { ? };
-    ghost alike_along = { ? };
-    ghost alike_kids = { ? };
-    ghost alike_same = { ? };
-    ghost alike_var = { ? };
-    ghost alike_stands = { ? };
-    ghost var_same = { ? };
-    ghost var_kids = { ? };
-    ghost var_stands = { ? };
-    ghost apply_var = { ? };
-    ghost apply_alike = { ? };
-    ghost apply_kids = { ? };
+    ghost use Rattle.ls_terms.specs.Types as spec;
+
+    ghost size = { spec.size };
+
+    ghost alike = { spec.alike };
+
+    ghost kids = { spec.kids };
+
+    ghost var_of = { spec.var_of };
+
+    ghost stands = { spec.stands };
+
+    ghost apply = { spec.apply };
+
+    ghost size_is = { spec.size_is };
+
+    ghost alike_self = { spec.alike_self };
+
+    ghost alike_back = { spec.alike_back };
+
+    ghost alike_along = { spec.alike_along };
+
+    ghost alike_kids = { spec.alike_kids };
+
+    ghost alike_same = { spec.alike_same };
+
+    ghost alike_var = { spec.alike_var };
+
+    ghost alike_stands = { spec.alike_stands };
+
+    ghost var_same = { spec.var_same };
+
+    ghost var_kids = { spec.var_kids };
+
+    ghost var_stands = { spec.var_stands };
+
+    ghost apply_var = { spec.apply_var };
+
+    ghost apply_alike = { spec.apply_alike };
+
+    ghost apply_kids = { spec.apply_kids };
 
     fn as_var(&self) -> Option<u32> {
         match self {
@@ -89,7 +114,7 @@ impl Term for TypeTerm {
             (TypeTerm::Unit, TypeTerm::Unit) => true,
             (TypeTerm::Enum(x), TypeTerm::Enum(y)) => x == y,
             (TypeTerm::Tuple(a), TypeTerm::Tuple(b)) => a.len() == b.len(),
-            (TypeTerm::Arrow(k, a, _), TypeTerm::Arrow(m, b, _)) => k == m && a.len() == b.len(),
+            (TypeTerm::Arrow(k, a, _), TypeTerm::Arrow(m, b, _)) => a.len() == b.len() && k == m,
             (TypeTerm::Signal(_), TypeTerm::Signal(_)) => true,
             _ => false,
         }
@@ -109,7 +134,9 @@ fn put_all(
     all: &[TypeTerm],
     alloc: Global,
     by: &Subst<TypeTerm>,
-) -> Result<List<TypeTerm>, NoMemory> {
+) -> Result<List<TypeTerm>, NoMemory>
+    ensures { IfOk result (λ r. r ≡ map (spec.apply (first by.now.list)) all.now) }
+{
     let mut done = List::new(alloc);
     for t in all {
         done.push(put(t, alloc, by)?)?;
@@ -118,7 +145,9 @@ fn put_all(
 }
 
 #[cycle(put)]
-fn put(t: &TypeTerm, alloc: Global, by: &Subst<TypeTerm>) -> Result<TypeTerm, NoMemory> {
+fn put(t: &TypeTerm, alloc: Global, by: &Subst<TypeTerm>) -> Result<TypeTerm, NoMemory>
+    ensures { IfOk result (λ r. r ≡ spec.apply (first by.now.list) t.now) }
+{
     match t {
         TypeTerm::Var(x) => match by.get(*x) {
             Some(value) => value.copy(alloc),
@@ -141,7 +170,9 @@ fn put(t: &TypeTerm, alloc: Global, by: &Subst<TypeTerm>) -> Result<TypeTerm, No
 }
 
 #[cycle(copy)]
-fn copy_all(all: &[TypeTerm], alloc: Global) -> Result<List<TypeTerm>, NoMemory> {
+fn copy_all(all: &[TypeTerm], alloc: Global) -> Result<List<TypeTerm>, NoMemory>
+    ensures { IfOk result (λ r. r ≡ all.now) }
+{
     let mut done = List::new(alloc);
     for t in all {
         done.push(t.copy(alloc)?)?;
