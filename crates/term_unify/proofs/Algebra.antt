@@ -1,4 +1,4 @@
-use Rattle.std.proofs.Common.{◌≡◌, ℕ, ◌+◌, true, List, [], map, length, Option, Some, None}
+use Rattle.std.proofs.Common.{◌≡◌, ℕ, ◌+◌, true, [], map, length, Option, Some, None}
 use Rattle.std.specs.Prelude.{unwrap_or}
 use Rattle.term_unify.specs.Terms.{total}
 use Rattle.term_unify.specs.declared.laws.Term.{Ghosts}

@@ -1,13 +1,13 @@
-use Rattle.std.proofs.Common.{◌≡◌, ◌≢◌, ℕ, zero, suc, ◌+◌, ◌<◌, ◌≤◌, Bool, true, false, List, [], ◌∷◌, ◌++◌, Option, Some, None, ◌⊎◌, inl, inr, length, get_or, set, map, take, refl, ap, sym, ◌∙◌, subst, arith, length-append, Vec, Global}
+use Rattle.std.proofs.Common.{◌≡◌, ◌≢◌, ℕ, zero, suc, ◌+◌, ◌<◌, ◌≤◌, List, [], ◌∷◌, ◌++◌, Option, Some, None, inl, inr, length, set, map, refl, ap, sym, ◌∙◌, subst, arith, Vec, Global}
 use Rattle.std.specs.Prelude.{unwrap_or, ◌==◌, if◌then◌else◌}
-use Rattle.std.specs.List.{slice_get, slice_index, slice_set}
-use Rattle.std.specs.Option.{option_map, is_some}
+use Rattle.std.specs.List.{slice_get, slice_index}
+use Rattle.std.specs.Option.{option_map}
 use Rattle.std.proofs.lemmas.List.{length-set, length-map}
 use Rattle.std.proofs.lemmas.Bool.Decides.{eqb_tells}
 use Rattle.std.proofs.lemmas.Option.{slice_get_within, slice_get-map}
-use Rattle.term_unify.specs.Terms.{total, first}
-use Rattle.term_unify.specs.Graph.{nodes, value, IsGraph, AreClasses, JoinsVariables}
-use Rattle.term_unify.specs.Order.{IsWalk, IsOrder, sum_below}
+use Rattle.term_unify.specs.Terms.{first}
+use Rattle.term_unify.specs.Graph.{IsGraph, AreClasses, JoinsVariables}
+use Rattle.term_unify.specs.Order.{IsWalk}
 use Rattle.term_unify.specs.Binding.{AreGroups, IsBinding, IsHandled}
 use Rattle.term_unify.specs.declared.laws.Term.{Ghosts}
 use Rattle.term_unify.proofs.Algebra.{Laws}

@@ -1,18 +1,17 @@
-use Rattle.std.proofs.Common.{◌≡◌, ◌≢◌, ℕ, zero, suc, ◌+◌, ◌<◌, ◌≤◌, Bool, true, false, List, [], ◌∷◌, ◌++◌, Option, Some, None, ◌⊎◌, inl, inr, length, get_or, set, map, refl, ap, sym, ◌∙◌, subst, arith, append_assoc, add_assoc, length-append}
-use Rattle.std.specs.Prelude.{eqb, ◌==◌, if◌then◌else◌, unwrap_or}
+use Rattle.std.proofs.Common.{◌≡◌, ◌≢◌, ℕ, zero, suc, ◌+◌, ◌<◌, true, false, List, [], ◌∷◌, ◌++◌, Option, Some, None, inl, inr, length, map, refl, ap, sym, ◌∙◌, subst, arith, add_assoc, length-append}
+use Rattle.std.specs.Prelude.{◌==◌, if◌then◌else◌}
 use Rattle.std.specs.List.{slice_get, slice_index, slice_set}
 use Rattle.std.specs.Option.{option_map, option_map_or, option_and_then, is_some}
-use Rattle.std.proofs.lemmas.List.{get_or-set_same, get_or-set_other, length-set, length-map}
+use Rattle.std.proofs.lemmas.List.{length-set}
 use Rattle.std.proofs.lemmas.Bool.Decides.{eqb_tells}
 use Rattle.std.proofs.lemmas.Option.{slice_get_within, slice_get-map}
-use Rattle.term_unify.specs.Graph.{nodes, value, rank, Follows, Leads, Shortened, IsForest, IsClosing, AreWithin, Solves, pair_up, live, work, IsGraph, AreLabels, AreClasses, Respects}
-use Rattle.term_unify.specs.Graph.Leads.{here, up}
+use Rattle.term_unify.specs.Graph.{value, rank, Follows, Leads, Shortened, IsForest, IsClosing, AreWithin, Solves, pair_up, live, work, IsGraph}
 use Rattle.term_unify.specs.Graph.Shortened.{same, halved}
 use Rattle.term_unify.specs.declared.laws.Term.{Ghosts}
 use Rattle.term_unify.proofs.Algebra.{Laws}
 use Rattle.term_unify.proofs.Lists.{same_or_not, same_item, got_some}
-use Rattle.term_unify.proofs.Nodes.{solves-append, solves_front, solves_last, within-append, within_front, within_last}
-use Rattle.term_unify.proofs.Forest.{set_here, set_there, leads_follow, leads_along, one_root, root_stays, halved_follows, follows_halved, halved_forest, inside, shortened_forest, root_kept, root_before}
+use Rattle.term_unify.proofs.Nodes.{solves-append, solves_front, solves_last, within-append, within_front}
+use Rattle.term_unify.proofs.Forest.{set_here, set_there, leads_follow, halved_follows, follows_halved, halved_forest, inside, root_kept, root_before}
 
 pub solves_join : {X : Type 0} (h : ℕ → X) (es fs : List (ℕ × ℕ)) → Solves h es → Solves h fs → Solves h (es ++ fs)
 solves_join h [] fs z y = y

@@ -1,19 +1,19 @@
-use Rattle.std.proofs.Common.{◌≡◌, ◌≢◌, ℕ, zero, suc, ◌+◌, ◌<◌, ◌≤◌, List, [], ◌∷◌, ◌++◌, Option, Some, None, ◌⊎◌, inl, inr, length, get_or, take, drop, map, refl, ap, sym, ◌∙◌, subst, arith, length-append, append_assoc, add-one, Bor}
-use Rattle.std.specs.List.{slice_get, slice_index, AllZip, All}
+use Rattle.std.proofs.Common.{◌≡◌, ◌≢◌, ℕ, ◌+◌, ◌<◌, ◌≤◌, List, [], ◌∷◌, ◌++◌, Option, Some, None, inl, inr, length, get_or, take, drop, ap, sym, ◌∙◌, subst, arith, length-append, append_assoc, Bor}
+use Rattle.std.specs.List.{slice_get, slice_index, AllZip}
 use Rattle.std.specs.Option.{option_map}
 use Rattle.std.specs.BTreeMap.{is_at}
 use Rattle.std.specs.Ordering.{nat_cmp}
 use Rattle.std.specs.Prelude.{false}
 use Rattle.std.proofs.lemmas.Grind.{common_steps, get_or_default_zero}
 use Rattle.std.proofs.Math.ListN.{get_or-append}
-use Rattle.std.proofs.lemmas.List.{map-append, length-map, get_or-append-add}
+use Rattle.std.proofs.lemmas.List.{map-append, length-map}
 use Rattle.std.proofs.lemmas.Option.{slice_get_within, get_or_from_slice_get, slice_get-map, slice_get-get_or}
 use Rattle.std.proofs.lemmas.List.Elements.{All-nil, All-cons, All-head, All-tail}
 use Rattle.term_unify.specs.Terms.{total}
-use Rattle.term_unify.specs.Graph.{nodes, value, Keeps, PartsFollow, IsGraph, Solves, AreWithin, Pose, JoinsVariables, Unifies}
+use Rattle.term_unify.specs.Graph.{nodes, value, Keeps, PartsFollow, Solves, AreWithin, Pose, JoinsVariables, Unifies}
 use Rattle.term_unify.specs.declared.laws.Term.{Ghosts}
 use Rattle.term_unify.proofs.Algebra.{Laws}
-use Rattle.term_unify.proofs.Lists.{got_front, got_front_back, got_back, got_next, got_cases, less_or_same, same_or_not, take_more, same_item, AllZip_then, AllZip_push, total-drop, total_drop-append}
+use Rattle.term_unify.proofs.Lists.{got_front, got_front_back, got_back, got_next, less_or_same, same_or_not, take_more, same_item, AllZip_then, AllZip_push, total-drop, total_drop-append}
 
 -- one pair more
 pub posed : {T : Type 0} (ts us vs : List (Bor T)) (es fs : List (ℕ × ℕ)) (ps : List (T × T)) (i at : ℕ) (p : T × T) (a b : Bor T)

@@ -1,16 +1,16 @@
-use Rattle.std.proofs.Common.{◌≡◌, ◌≢◌, ℕ, zero, suc, ◌+◌, ◌<◌, ◌≤◌, Bool, true, false, List, [], ◌∷◌, ◌++◌, Option, Some, None, ◌⊎◌, inl, inr, length, get_or, map, take, refl, ap, sym, ◌∙◌, subst, arith, length-append, add-one}
+use Rattle.std.proofs.Common.{◌≡◌, ℕ, zero, suc, ◌+◌, ◌<◌, ◌≤◌, true, List, [], ◌∷◌, ◌++◌, Option, Some, None, inl, inr, length, map, take, refl, ap, sym, ◌∙◌, subst, arith, add-one}
 use Rattle.std.specs.Prelude.{unwrap_or}
 use Rattle.std.specs.List.{slice_get, slice_index}
 use Rattle.std.specs.Option.{option_map}
 use Rattle.std.proofs.lemmas.List.{length-map}
 use Rattle.std.proofs.lemmas.Option.{slice_get_within, slice_get-map}
 use Rattle.term_unify.specs.Terms.{total, first}
-use Rattle.term_unify.specs.Graph.{nodes, value, IsGraph, AreClasses, JoinsVariables, Respects, Solves, AreWithin}
-use Rattle.term_unify.specs.Order.{IsWalk, IsOrder, sum_below}
-use Rattle.term_unify.specs.Binding.{IsBinding, IsHandled}
+use Rattle.term_unify.specs.Graph.{value, IsGraph, AreClasses, JoinsVariables, Respects, Solves, AreWithin}
+use Rattle.term_unify.specs.Order.{IsOrder, sum_below}
+use Rattle.term_unify.specs.Binding.{IsBinding}
 use Rattle.term_unify.specs.declared.laws.Term.{Ghosts}
 use Rattle.term_unify.proofs.Algebra.{Laws}
-use Rattle.term_unify.proofs.Lists.{same_item, got_some, got_front, take_more, total-append, total_at, same_list}
+use Rattle.term_unify.proofs.Lists.{same_item, got_some, take_more, total-append, total_at, same_list}
 use Rattle.term_unify.proofs.Bindings.{first_entry}
 
 pub total_sum : {X : Type 0} (f : X → ℕ) (h : ℕ → ℕ) (xs : List X) (n : ℕ) → n ≤ length xs → ((i : ℕ) (x : X) → i < n → slice_get xs i ≡ Some x → f x ≡ h i)

@@ -1,8 +1,8 @@
-use Rattle.std.proofs.Common.{◌≡◌, ◌≢◌, ℕ, ◌+◌, ◌<◌, ◌≤◌, true, false, List, [], ◌∷◌, ◌++◌, Option, Some, None, length, refl, ap, sym, ◌∙◌, subst, arith, Result, Ok, Err}
+use Rattle.std.proofs.Common.{◌≡◌, ◌≢◌, ℕ, ◌+◌, ◌<◌, ◌≤◌, true, false, List, [], ◌∷◌, ◌++◌, Option, Some, None, length, refl, sym, ◌∙◌, subst, arith, Result, Ok, Err}
 use Rattle.std.specs.Prelude.{OnOk, IsErrAnd}
 use Rattle.std.specs.List.{slice_get, slice_index, slice_set}
 use Rattle.std.proofs.lemmas.Option.{slice_get_within}
-use Rattle.term_unify.specs.Graph.{nodes, value, rank, Follows, Leads, Shortened, IsForest, IsClosing, Solves, pair_up, live, work, IsGraph, AreLabels, AreClasses, Respects}
+use Rattle.term_unify.specs.Graph.{value, rank, Follows, Leads, Shortened, IsForest, IsClosing, Solves, pair_up, work, IsGraph, AreLabels, AreClasses, Respects}
 use Rattle.term_unify.specs.Graph.Leads.{here, up}
 use Rattle.term_unify.specs.Graph.Shortened.{same, halved}
 use Rattle.term_unify.specs.declared.laws.Term.{Ghosts}

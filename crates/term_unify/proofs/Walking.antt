@@ -1,4 +1,4 @@
-use Rattle.std.proofs.Common.{◌≡◌, ◌≢◌, ℕ, zero, suc, ◌+◌, ◌<◌, ◌≤◌, ◌-◌, Bool, true, false, List, [], ◌∷◌, ◌++◌, Option, Some, None, ◌⊎◌, inl, inr, length, get_or, set, map, take, refl, ap, sym, ◌∙◌, subst, arith, length-append, add-one, Bor}
+use Rattle.std.proofs.Common.{◌≡◌, ◌≢◌, ℕ, zero, suc, ◌+◌, ◌<◌, ◌≤◌, ◌-◌, Bool, true, false, List, [], ◌∷◌, ◌++◌, Option, Some, None, ◌⊎◌, inl, inr, length, get_or, set, map, take, refl, ap, sym, ◌∙◌, subst, arith, add-one, Bor}
 use Rattle.std.specs.List.{slice_get, slice_index, slice_set}
 use Rattle.std.specs.Option.{option_map}
 use Rattle.std.specs.Prelude.{replicate, unwrap_or}
@@ -7,7 +7,7 @@ use Rattle.std.proofs.lemmas.List.{length-set, length-map}
 use Rattle.std.proofs.lemmas.Option.{slice_get_within, slice_get-map}
 use Rattle.term_unify.specs.Terms.{total}
 use Rattle.term_unify.specs.Graph.{nodes, value, IsGraph, AreClasses, Respects, IsAdmissible}
-use Rattle.term_unify.specs.Order.{IsWalk, IsOrder, sum_below}
+use Rattle.term_unify.specs.Order.{IsWalk, sum_below}
 use Rattle.term_unify.specs.declared.laws.Term.{Ghosts}
 use Rattle.term_unify.proofs.Algebra.{Laws}
 use Rattle.term_unify.proofs.Lists.{same_or_not, less_or_same, got_set_other, same_item, got_some, got_front, got_cases, got_next, take_more, total-append, total_at}

@@ -1,8 +1,6 @@
-use Rattle.std.proofs.Common.{◌≡◌, ◌≢◌, ℕ, ◌<◌, ◌+◌, ◌∙◌, sym, ap, refl, arith, length, Some, None, subst, rules}
+use Rattle.std.proofs.Common.{◌≡◌, ℕ, ◌+◌, ◌∙◌, sym, ap, arith, length, subst}
 use Rattle.std.specs.Ordering.{nat_cmp}
 use Rattle.std.specs.BTreeMap.{get}
-use Rattle.std.specs.List.{slice_get}
-use Rattle.std.proofs.lemmas.Grind.{common_steps}
 use Rattle.term_unify.specs.Graph.{nodes, Solves, JoinsVariables}
 use Rattle.term_unify.proofs.Algebra.{laws_of}
 use Rattle.term_unify.proofs.Nodes.{Joining, apart_cmp, node_at, joining_other, joining_again, joining_first, joined}

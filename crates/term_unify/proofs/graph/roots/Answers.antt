@@ -1,4 +1,4 @@
-use Rattle.std.proofs.Common.{sym, refl, ◌∙◌}
+use Rattle.std.proofs.Common.{refl, ◌∙◌}
 use Rattle.term_unify.proofs.Nodes.{posed}
 use Rattle.term_unify.proofs.graph.roots.Goals as goal
 

@@ -1,9 +1,9 @@
-use Rattle.std.proofs.Common.{◌≡◌, ◌<◌, ◌≤◌, ℕ, List, arith, length, get_or, sym, ap, subst, ◌∙◌, Some, true, Option, Err}
-use Rattle.std.specs.List.{slice_get, slice_index}
+use Rattle.std.proofs.Common.{length, get_or, sym, ap, subst, Err}
+use Rattle.std.specs.List.{slice_index}
 use Rattle.std.proofs.lemmas.List.{length-map}
 use Rattle.std.proofs.lemmas.Option.{slice_get-get_or}
 use Rattle.term_unify.specs.Terms.{first}
-use Rattle.term_unify.specs.Graph.{nodes, value, Solves, AreWithin, AreClasses, JoinsVariables, Unifies}
+use Rattle.term_unify.specs.Graph.{nodes, AreWithin, JoinsVariables}
 use Rattle.term_unify.specs.Order.{IsOrder}
 use Rattle.term_unify.specs.Binding.{IsBinding}
 use Rattle.term_unify.proofs.Algebra.{laws_of}

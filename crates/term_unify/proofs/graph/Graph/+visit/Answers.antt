@@ -1,7 +1,7 @@
-use Rattle.std.proofs.Common.{◌≡◌, ◌≢◌, ℕ, ◌+◌, ◌<◌, ◌≤◌, ◌∙◌, sym, ap, subst, refl, length, arith, Some, true, false, inl, inr}
+use Rattle.std.proofs.Common.{◌≡◌, ◌≢◌, ◌+◌, ◌<◌, ◌∙◌, sym, ap, subst, refl, length, arith, Some, true, false, inl, inr}
 use Rattle.std.specs.List.{slice_get, slice_index, slice_set}
 use Rattle.std.proofs.lemmas.List.{length-map, length-set}
-use Rattle.term_unify.specs.Graph.{nodes, IsGraph}
+use Rattle.term_unify.specs.Graph.{nodes}
 use Rattle.term_unify.proofs.Algebra.{laws_of}
 use Rattle.std.proofs.lemmas.Option.{slice_get-get_or}
 use Rattle.term_unify.specs.Order.{sum_below}

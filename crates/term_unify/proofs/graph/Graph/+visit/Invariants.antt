@@ -1,4 +1,4 @@
-use Rattle.std.proofs.Common.{◌≡◌, ◌<◌, ◌≤◌, ◌+◌, ℕ, length, Some, true}
+use Rattle.std.proofs.Common.{◌≡◌, ◌<◌, ◌≤◌, ◌+◌, ℕ, Some, true}
 use Rattle.std.specs.List.{slice_index, slice_get}
 use Rattle.term_unify.specs.Graph.{nodes}
 use Rattle.term_unify.specs.Order.{IsWalk, sum_below}

@@ -1,4 +1,4 @@
-use Rattle.std.proofs.Common.{◌≡◌, ◌≢◌, ◌<◌, ◌≤◌, ℕ, ◌+◌, arith, length, sym, ap, subst, ◌∙◌, Some, None, true, false, [], ◌∷◌, ◌++◌}
+use Rattle.std.proofs.Common.{◌≡◌, ◌≢◌, ◌+◌, arith, sym, ap, subst, ◌∙◌, Some, None, true, false, [], ◌∷◌, ◌++◌}
 use Rattle.std.specs.List.{slice_get, slice_index}
 use Rattle.std.specs.Option.{is_some}
 use Rattle.std.proofs.lemmas.List.{length-map}
@@ -12,7 +12,6 @@ use Rattle.term_unify.proofs.Bindings.{Binds, binds_other, binds_own, binds_list
 use Rattle.term_unify.proofs.graph.Graph.bind.Goals as goal
 use Rattle.std.specs.Option.{option_copied}
 use Rattle.std.specs.Prelude.{not}
-use Rattle.term_unify.specs.declared.subst.Subst.{Subst}
 use Rattle.term_unify.proofs.graph.Graph.bind.Goals.{in-Some+then-not-same_head+then-is_none+in_ok-value+in_ok-push, in-Some+else-not-same_head, else-not-same_head-via-then-not-same_head+else-is_none, else-not-same_head-via-else-not-same_head, in_default}
 
 pub loop-node-preserved : goal.loop-node-preserved

@@ -1,7 +1,4 @@
-use Rattle.std.proofs.Common.{◌≡◌, ◌<◌, ◌≤◌, ℕ, length, Some, List, take}
-use Rattle.std.specs.List.{slice_index, slice_get}
-use Rattle.term_unify.specs.Graph.{nodes, IsGraph, AreClasses, JoinsVariables}
-use Rattle.term_unify.specs.Order.{IsWalk}
+use Rattle.term_unify.specs.Graph.{nodes}
 use Rattle.term_unify.proofs.Bindings.{Binds}
 use Rattle.term_unify.proofs.graph.Graph.bind.Given as goal
 

@@ -1,6 +1,5 @@
-use Rattle.std.proofs.Common.{◌≡◌, ◌<◌, ℕ, arith, length, sym, ap, subst, ◌∙◌, [], ◌∷◌, ◌++◌, List}
-use Rattle.std.specs.List.{slice_index}
-use Rattle.term_unify.specs.Graph.{nodes, IsClosing, Solves, AreLabels, AreWithin}
+use Rattle.std.proofs.Common.{◌≡◌, arith, length, sym, ap, subst, ◌∙◌, [], ◌∷◌, ◌++◌}
+use Rattle.term_unify.specs.Graph.{nodes, IsClosing, AreLabels, AreWithin}
 use Rattle.term_unify.proofs.Algebra.{laws_of}
 use Rattle.term_unify.proofs.Lists.{empty, take_front}
 use Rattle.term_unify.proofs.Nodes.{within_last}

@@ -1,5 +1,5 @@
-use Rattle.std.proofs.Common.{◌≡◌, [], ◌++◌, ◌+◌, ◌<◌, ◌∙◌, sym, ap, length, arith, Some, subst}
-use Rattle.std.specs.List.{slice_get, slice_index}
+use Rattle.std.proofs.Common.{◌≡◌, [], ◌++◌, ◌<◌, ◌∙◌, ap, length, arith}
+use Rattle.std.specs.List.{slice_index}
 use Rattle.std.proofs.lemmas.List.{length-map}
 use Rattle.term_unify.specs.Graph.{nodes, pair_up}
 use Rattle.term_unify.proofs.Algebra.{laws_of}

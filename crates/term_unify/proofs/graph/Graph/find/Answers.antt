@@ -1,7 +1,7 @@
-use Rattle.std.proofs.Common.{◌≡◌, ◌<◌, ◌∙◌, sym, length, arith, subst}
-use Rattle.std.specs.List.{slice_index, slice_set}
+use Rattle.std.proofs.Common.{◌<◌, sym, subst}
+use Rattle.std.specs.List.{slice_index}
 use Rattle.std.proofs.lemmas.List.{length-set}
-use Rattle.term_unify.specs.Graph.{nodes, rank, IsForest, Leads, Shortened}
+use Rattle.term_unify.specs.Graph.{nodes}
 use Rattle.term_unify.specs.Graph.Leads.{here}
 use Rattle.term_unify.specs.Graph.Shortened.{same, halved}
 use Rattle.term_unify.proofs.Forest.{halved_forest, link_leads, leads_along, lower, inside}

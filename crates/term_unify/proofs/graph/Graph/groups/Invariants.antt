@@ -1,5 +1,5 @@
-use Rattle.std.proofs.Common.{◌≡◌, ◌<◌, ◌≤◌, ℕ, length, Some, [], Vec, Global}
-use Rattle.std.specs.List.{slice_index, slice_get}
+use Rattle.std.proofs.Common.{◌≡◌, ℕ, length, Some, [], Vec, Global}
+use Rattle.std.specs.List.{slice_get}
 use Rattle.term_unify.specs.Graph.{nodes}
 use Rattle.term_unify.specs.Binding.{AreGroups}
 use Rattle.term_unify.proofs.graph.Graph.groups.Given as goal

@@ -1,8 +1,7 @@
-use Rattle.std.proofs.Common.{◌≡◌, ◌≢◌, ℕ, ◌<◌, ◌++◌, ◌∷◌, [], sym, ap, length, arith, true, refl, Option, List}
-use Rattle.std.proofs.lemmas.List.{length-map}
-use Rattle.term_unify.specs.Graph.{nodes, IsClosing, rank}
+use Rattle.std.proofs.Common.{◌<◌, length, arith}
+use Rattle.term_unify.specs.Graph.{nodes}
 use Rattle.term_unify.proofs.Algebra.{laws_of}
-use Rattle.term_unify.proofs.Together.{ok_then, ok_both, met_closing, met_work, forest_after, one_over, other_over, one_over_work, other_over_work, one_over_clash, other_over_clash}
+use Rattle.term_unify.proofs.Together.{ok_then, ok_both, met_closing, met_work, one_over, other_over, one_over_work, other_over_work, one_over_clash, other_over_clash}
 use Rattle.term_unify.proofs.Forest.{shortened_forest}
 use Rattle.term_unify.proofs.graph.Graph.join.Goals as goal
 

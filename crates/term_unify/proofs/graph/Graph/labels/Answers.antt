@@ -1,6 +1,6 @@
-use Rattle.std.proofs.Common.{◌≡◌, ◌<◌, ℕ, arith, length, sym, ap, subst, ◌∙◌}
+use Rattle.std.proofs.Common.{◌≡◌, ◌<◌, arith, length, sym, ap, ◌∙◌}
 use Rattle.std.specs.List.{slice_index}
-use Rattle.term_unify.specs.Graph.{nodes, Leads, Shortened, IsForest}
+use Rattle.term_unify.specs.Graph.{nodes, Leads}
 use Rattle.term_unify.proofs.Lists.{each_more}
 use Rattle.term_unify.proofs.Nodes.{longer}
 use Rattle.term_unify.proofs.Forest.{shortened_forest, leads_back, root_before}

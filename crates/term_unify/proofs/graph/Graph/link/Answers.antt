@@ -1,7 +1,7 @@
-use Rattle.std.proofs.Common.{◌≡◌, [], ◌++◌, ◌∙◌, sym, ap, length, arith, Option, Some, None, ℕ, true, false, refl, append-nil}
+use Rattle.std.proofs.Common.{◌≡◌, [], ◌++◌, ◌∙◌, sym, ap, length, arith, true, false, append-nil}
 use Rattle.std.specs.Option.{is_some}
 use Rattle.term_unify.proofs.Closing.{var_no_parts}
-use Rattle.std.specs.List.{slice_get, slice_index}
+use Rattle.std.specs.List.{slice_index}
 use Rattle.term_unify.specs.Graph.{nodes, pair_up}
 use Rattle.term_unify.proofs.Algebra.{laws_of}
 use Rattle.term_unify.proofs.Nodes.{node_at}

@@ -1,6 +1,6 @@
-use Rattle.std.proofs.Common.{◌≡◌, ℕ, ◌∙◌, sym, ap, subst, length, Option}
+use Rattle.std.proofs.Common.{◌≡◌, ◌∙◌, sym, ap, subst, length}
 use Rattle.std.proofs.lemmas.List.{length-map}
-use Rattle.term_unify.specs.Graph.{nodes, value, Keeps, Solves, AreWithin, Pose, JoinsVariables, Unifies}
+use Rattle.term_unify.specs.Graph.{nodes, value, Solves, AreWithin, Pose, JoinsVariables}
 use Rattle.term_unify.proofs.Nodes.{pose_kept, pose_within, pose_sound, pose_back}
 use Rattle.term_unify.proofs.graph.Graph.of.Goals as goal
 

@@ -1,14 +1,13 @@
-use Rattle.std.proofs.Common.{◌≡◌, ◌≢◌, ℕ, ◌+◌, ◌<◌, ◌≤◌, ◌∙◌, sym, ap, subst, refl, length, arith, Some, None, true, false, Err}
+use Rattle.std.proofs.Common.{◌≡◌, ℕ, ◌+◌, ◌<◌, ◌∙◌, sym, ap, subst, length, arith, Some, true, false, Err}
 use Rattle.std.specs.List.{slice_get, slice_index}
-use Rattle.std.specs.Prelude.{replicate}
 use Rattle.std.specs.Option.{is_some, option_map}
 use Rattle.std.proofs.lemmas.List.{length-map}
 use Rattle.std.proofs.lemmas.Option.{slice_get_within}
-use Rattle.term_unify.specs.Graph.{nodes, value}
-use Rattle.term_unify.specs.Order.{IsWalk, IsOrder}
+use Rattle.term_unify.specs.Graph.{nodes}
+use Rattle.term_unify.specs.Order.{IsWalk}
 use Rattle.term_unify.proofs.Algebra.{laws_of}
-use Rattle.term_unify.proofs.Lists.{some_of, none_of, got_some}
-use Rattle.term_unify.proofs.Nodes.{node_at, number_at}
+use Rattle.term_unify.proofs.Lists.{some_of, none_of}
+use Rattle.term_unify.proofs.Nodes.{node_at}
 use Rattle.term_unify.proofs.Together.{err_is}
 use Rattle.term_unify.proofs.Walking.{Ordered, ordered_other, ordered_more, stands_clash, root_small, no_true}
 use Rattle.term_unify.specs.declared.walk.Walk.{Walk}

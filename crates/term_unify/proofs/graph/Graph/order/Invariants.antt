@@ -1,5 +1,4 @@
-use Rattle.std.proofs.Common.{◌≡◌, ◌<◌, ◌≤◌, ℕ, length, Some, true, false}
-use Rattle.std.specs.List.{slice_index, slice_get}
+use Rattle.std.proofs.Common.{◌≡◌, length, false}
 use Rattle.std.specs.Prelude.{replicate}
 use Rattle.term_unify.specs.Graph.{nodes}
 use Rattle.term_unify.specs.Order.{IsWalk}
