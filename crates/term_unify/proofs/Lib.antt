@@ -1,0 +1,10 @@
+pub mod Lists
+pub mod Nodes
+pub mod Algebra
+pub mod Forest
+pub mod Closing
+pub mod Together
+pub mod Walking
+pub mod Bindings
+pub mod Places
+pub mod Solved

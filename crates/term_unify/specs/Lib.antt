@@ -1,0 +1,4 @@
+pub mod Binding
+pub mod Graph
+pub mod Order
+pub mod Terms
