@@ -1,4 +1,5 @@
 pub mod Told
+pub mod Munch
 pub mod NameLemmas
 pub mod Quotes
 pub mod Rows
