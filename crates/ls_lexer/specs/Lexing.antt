@@ -1,5 +1,5 @@
 -- The tokens of a file, or the first fault in it.
-use Rattle.std.specs.Prelude.{◌≡◌, ℕ, zero, suc, ◌+◌, ◌<◌, ◌≤◌, ◌⊎◌, Bool, false, if◌then◌else◌, List, [], ◌∷◌, ◌++◌, length, take, drop, slice_get, Option, Some, None, Ok, Err, codes, encode_utf8_all, pos}
+use Rattle.std.specs.Prelude.{◌≡◌, ℕ, zero, suc, ◌+◌, ◌<◌, ◌≤◌, ◌⊎◌, Bool, false, if◌then◌else◌, List, [], ◌∷◌, ◌++◌, length, take, drop, slice_get, Option, Some, None, Ok, Err, codes, encode_utf8_all, pos, All}
 use Rattle.std.specs.Str.{IsUtf8, IsValidUpTo, chars}
 use Rattle.ls_base.specs.declared.Line.{Line}
 use Rattle.ls_base.specs.declared.Name.{Name}
@@ -110,6 +110,22 @@ FaultsHere line left fault = (piece_at line left ≡ Err fault)
 -- a row of pieces leads to a place that has the fault
 abbrev pub HasFault : List ℕ → LexFault → Type 0
 HasFault text fault = (n : ℕ) × (end : State) × Leads n (start text) end × (0 < length end.left) × FaultsHere end.line end.left fault
+
+-- where a token has a name, the name's number has a spelling
+abbrev pub IsNamed : List (List ℕ) → Token → Type 0
+IsNamed names (Id name) = (spelling : List ℕ) × (slice_get names name.0 ≡ Some spelling)
+IsNamed names (Cons name) = (spelling : List ℕ) × (slice_get names name.0 ≡ Some spelling)
+IsNamed names (Int n) = Unit {0}
+IsNamed names (Char c) = Unit {0}
+IsNamed names (Text t) = Unit {0}
+IsNamed names (Prefix op) = Unit {0}
+IsNamed names (Fixed word) = Unit {0}
+
+-- `false` and `true` are the first names, and each token's name is one of them all
+abbrev pub HasNames : Tokens → Type 0
+HasNames tokens = (slice_get tokens.names 0 ≡ Some (codes "false"))
+    × (slice_get tokens.names 1 ≡ Some (codes "true"))
+    × All (λ entry. IsNamed tokens.names entry.1) tokens.list
 
 -- the tokens of a file
 abbrev pub Lexes : List ℕ → Tokens → Type 0

@@ -3,6 +3,7 @@
 
 mod fault;
 mod keyword;
+mod longest;
 mod piece;
 mod reading;
 mod scan;
@@ -12,5 +13,6 @@ mod tests;
 mod token;
 
 pub use fault::LexFault;
+pub use longest::longest_piece;
 pub use reading::lex;
 pub use token::{Fixed, Token, Tokens};

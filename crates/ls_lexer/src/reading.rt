@@ -23,6 +23,7 @@ pub fn lex(alloc: Global, bytes: &[u8]) -> Result<Tokens, LexFault>
     requires short { length bytes.now < 4294967295 }
     ensures tokens { IfOk result (λ tokens. spec.Lexes bytes.now tokens) }
     ensures fault { IfErr result (λ fault. fault ≢ LexFault.NoMemory → spec.IsLexFault bytes.now fault) }
+    ensures names { IfOk result (λ tokens. spec.HasNames tokens) }
     ensures no_other_tokens { (tokens : Tokens) → spec.Lexes bytes.now tokens → MatchResult result (λ found. found ≡ tokens) (λ fault. fault ≡ LexFault.NoMemory) }
     ensures no_other_fault { (fault : LexFault) → spec.IsLexFault bytes.now fault → MatchResult result (λ tokens. ⊥) (λ found. found ≢ LexFault.NoMemory → found ≡ fault) }
 {
