@@ -128,7 +128,7 @@ atom_takes D x ts m a =
     let f = one_longer b.0 a.0 b.1 b.2 in
     omega arith
 
-rest_few : (n : ℕ) (t : Token) (ts m : List Token) → ts ≡ t ∷ m → length ts ≤ n → length m ≤ n
+pub rest_few : (n : ℕ) (t : Token) (ts m : List Token) → ts ≡ t ∷ m → length ts ≤ n → length m ≤ n
 rest_few n t ts m is few = let e = one_longer t ts m is in omega arith
 
 -- where a name or `run` stands first, the operand is a call or a name

@@ -1,4 +1,5 @@
 pub mod Files
+pub mod FindEqs
 pub mod FindExpr
 pub mod Front
 pub mod Loops
