@@ -1,4 +1,5 @@
 pub mod Files
+pub mod FindDefs
 pub mod FindEqs
 pub mod FindExpr
 pub mod Front
