@@ -1,5 +1,3 @@
-pub mod NextInstant
-pub mod RunningSumLemmas
 pub mod Below
 pub mod Related
 pub mod Monotone

@@ -1,5 +1,3 @@
-pub mod RunningSum
-pub mod RunText
 pub mod Rows
 pub mod Values
 pub mod Clocks

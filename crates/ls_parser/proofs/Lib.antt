@@ -1,7 +1,4 @@
 pub mod Files
-pub mod FindDefs
-pub mod FindEqs
-pub mod FindExpr
 pub mod Front
 pub mod Loops
 pub mod Parts

@@ -4,8 +4,8 @@ use Rattle.std.specs.Prelude.{IsNone}
 use Rattle.std.specs.Option.{option_map, IfSome}
 use Rattle.std.proofs.lemmas.List.{append-nil, take-append-le}
 use Rattle.ls_base.specs.Outside.{WritesFront}
-use Rattle.kahn_model.specs.declared.running_sum.RunningSum.{RunningSum}
-use Rattle.kahn_model.specs.RunText.{Run, Stop, AtEnd, AtMost, AtLongLine, AtBadLine, run}
+use Rattle.sum_model.specs.declared.running_sum.RunningSum.{RunningSum}
+use Rattle.sum_model.specs.RunText.{Run, Stop, AtEnd, AtMost, AtLongLine, AtBadLine, run}
 use Rattle.line_io.specs.Line.{ahead, lines_of}
 use Rattle.lsc_cli.specs.Drive.{IsOver, IsBegun, stop_of, status_at}
 use Rattle.lsc_cli.specs.Outcome.{Outcome, Comes, closing, closing_of, status_of, outcome_of, run_outcome, node_of, most_lines, is_fault}

@@ -2,7 +2,7 @@
 use Rattle.std.proofs.Common.{◌≡◌, ℕ, ◌<◌, List, [], ◌++◌, length, Option, Some, None, Bool, true, false, refl, sym, ◌∙◌, ap, subst, ◌⊎◌, inl, inr}
 use Rattle.std.proofs.lemmas.List.{append-nil}
 use Rattle.std.specs.Option.{option_map, IfSome}
-use Rattle.kahn_model.specs.declared.running_sum.RunningSum.{RunningSum}
+use Rattle.sum_model.specs.declared.running_sum.RunningSum.{RunningSum}
 use Rattle.std.specs.Prelude.{Err}
 use Rattle.ls_base.specs.declared.Line.{Line}
 use Rattle.ls_ast.specs.declared.tree.FileOf.{FileOf}

@@ -8,9 +8,9 @@ use Rattle.std.proofs.lemmas.List.{append-nil, take-append-le}
 use Rattle.std.proofs.lemmas.List.Elements.{All-from_recursion}
 use Rattle.std.proofs.Math.Seq.{take-append-add}
 use Rattle.ls_base.specs.Outside.{WritesFront}
-use Rattle.kahn_model.specs.declared.running_sum.RunningSum.{RunningSum}
-use Rattle.kahn_model.specs.RunningSum.{network, Remembers}
-use Rattle.kahn_model.specs.RunText.{Run, Stop, AtEnd, AtMost, AtLongLine, AtBadLine, with_row, stopped, run, run_from, spelled, line_limit}
+use Rattle.sum_model.specs.declared.running_sum.RunningSum.{RunningSum}
+use Rattle.sum_model.specs.RunningSum.{network, Remembers}
+use Rattle.sum_model.specs.RunText.{Run, Stop, AtEnd, AtMost, AtLongLine, AtBadLine, with_row, stopped, run, run_from, spelled, line_limit}
 use Rattle.line_io.specs.Line.{NoNewline, lines_of, line_of, rest_of, ahead}
 use Rattle.line_io.specs.Rows.{Begins}
 use Rattle.line_io.proofs.LineLemmas.{lines_of-split, length-line_of-front, line_of-cut, rest_of-cut}

@@ -2,9 +2,9 @@
 use Rattle.std.specs.Prelude.{◌≡◌, ℕ, ℤ, ◌⊎◌, List, [], ◌∷◌, ◌++◌, Option, Some, None, IfSome, length}
 use Rattle.std.specs.Option.{option_map}
 use Rattle.ls_base.specs.Outside.{WritesFront}
-use Rattle.kahn_model.specs.declared.running_sum.RunningSum.{RunningSum}
-use Rattle.kahn_model.specs.RunningSum.{network, Remembers}
-use Rattle.kahn_model.specs.RunText.{Stop, AtEnd, AtMost, AtLongLine, AtBadLine, run}
+use Rattle.sum_model.specs.declared.running_sum.RunningSum.{RunningSum}
+use Rattle.sum_model.specs.RunningSum.{network, Remembers}
+use Rattle.sum_model.specs.RunText.{Stop, AtEnd, AtMost, AtLongLine, AtBadLine, run}
 use Rattle.line_io.specs.Line.{NoNewline, lines_of}
 use Rattle.line_io.specs.Rows.{Begins}
 use Rattle.step_runner.specs.declared.machine.Machine.{Machine}

@@ -1,9 +1,9 @@
 -- What the top call writes, and its status.
 use Rattle.std.specs.Prelude.{◌≡◌, ℕ, ℤ, Bool, true, false, List, [], ◌∷◌, ◌++◌, Option, Some, None, codes, length, decimal, ◌<◌, ◌≤◌, if◌then◌else◌}
 use Rattle.std.specs.Option.{option_map}
-use Rattle.kahn_model.specs.declared.running_sum.RunningSum.{RunningSum}
-use Rattle.kahn_model.specs.RunningSum.{network}
-use Rattle.kahn_model.specs.RunText.{Node, Run, Stop, AtEnd, AtMost, AtLongLine, AtBadLine, AtAlarm, run}
+use Rattle.sum_model.specs.declared.running_sum.RunningSum.{RunningSum}
+use Rattle.sum_model.specs.RunningSum.{network}
+use Rattle.sum_model.specs.RunText.{Node, Run, Stop, AtEnd, AtMost, AtLongLine, AtBadLine, AtAlarm, run}
 use Rattle.ls_base.specs.Outside.{WritesFront}
 use Rattle.line_io.specs.Line.{lines_of}
 use Rattle.lsc_cli.specs.IntLine.{input_of, row_text}

@@ -25,9 +25,9 @@ use Rattle.ls_ast.specs.declared.tree.Plain.{Plain}
 use Rattle.lsc_cli.specs.declared.form.Delay.{Delay}
 use Rattle.lsc_cli.specs.declared.form.Addition.{Addition}
 use Rattle.lsc_cli.specs.declared.form.SumNode.{SumNode}
-use Rattle.kahn_model.specs.declared.running_sum.RunningSum.{RunningSum}
-use Rattle.kahn_model.specs.declared.running_sum.Stream.{Stream}
-use Rattle.kahn_model.specs.declared.running_sum.Stream.TheVariants.{Param, Sum}
+use Rattle.sum_model.specs.declared.running_sum.RunningSum.{RunningSum}
+use Rattle.sum_model.specs.declared.running_sum.Stream.{Stream}
+use Rattle.sum_model.specs.declared.running_sum.Stream.TheVariants.{Param, Sum}
 
 infixl 10 ◌>>=◌
 abbrev pub ◌>>=◌ : {A B : Type 0} → Option A → (A → Option B) → Option B

@@ -1,7 +1,7 @@
 ghost use Rattle.std.specs.Prelude.{◌≡◌, ◌≢◌, ◌≤◌, ◌↔◌, ◌⊎◌, ◌++◌, codes, decimal, length, true, IfSome, IsNone};
 ghost use Rattle.ls_base.specs.Outside.{Rose};
 ghost use Rattle.ls_lexer.specs.declared.fault.LexFault.{LexFault};
-ghost use Rattle.kahn_model.specs.RunText.{AtBadLine};
+ghost use Rattle.sum_model.specs.RunText.{AtBadLine};
 ghost use Rattle.line_io.specs.Fields.{is_named};
 ghost use Rattle.lsc_cli.specs.Drive.{IsRead, status_at, stop_of};
 ghost use Rattle.lsc_cli.specs.Judged.{ComesFrom, IsJudged};
@@ -14,13 +14,13 @@ use crate::form::sum_of;
 use crate::lines::{DriveEnd, drive};
 use crate::status::Status;
 use arrayvec::ArrayVec;
-use kahn_model::RunningSum;
 use ls_ast::File;
 use ls_base::{Failed, Line, LoadFault, Name, Names, Sink, Source, Texts, write_all};
 use ls_lexer::{LexFault, Tokens, lex};
 use ls_parser::{SyntaxFault, parse};
 use std::alloc::Global;
 use step_runner::Machine;
+use sum_model::RunningSum;
 
 /// The greatest number of lines that a run answers.
 const MOST_LINES: u32 = 4_294_967_295;

@@ -3,11 +3,11 @@ ghost use Rattle.ls_ast.specs.declared.tree.Equation.{out-Equation};
 ghost use Rattle.ls_ast.specs.declared.tree.Plain.{Plain};
 ghost use Rattle.lsc_cli.specs.SumForm as spec;
 
-use kahn_model::{RunningSum, Stream};
 use ls_ast::{BodyOf, Def, DefOf, Equation, Expr, Form, Pat, Plain};
 use ls_base::{List, Name};
 use ls_ops::Op;
 use ls_value::Leaf;
+use sum_model::{RunningSum, Stream};
 
 /// `K fby Y`
 #[derive(Clone, Copy)]

@@ -2,7 +2,7 @@ ghost use Rattle.std.specs.Prelude.{◌≡◌, ◌≤◌, [], ◌++◌, ◌⊎�
 ghost use Rattle.std.specs.Option.{option_map};
 ghost use Rattle.ls_base.specs.Outside.{Rose, WritesFront};
 ghost use Rattle.line_io.specs.Line.{ahead};
-ghost use Rattle.kahn_model.specs.RunningSum.{Remembers};
+ghost use Rattle.sum_model.specs.RunningSum.{Remembers};
 ghost use Rattle.lsc_cli.specs.Drive.{Answers, Begun, IsBegun, IsOver, IsRead, stop_of};
 ghost use Rattle.lsc_cli.specs.IntLine.{input_of};
 ghost use Rattle.lsc_cli.specs.Ready.{IsReady};

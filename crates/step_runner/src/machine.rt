@@ -1,8 +1,8 @@
 ghost use Rattle.std.specs.Prelude.{◌≡◌, ℤ, List, [], ◌∷◌, ◌++◌, Some, length};
-ghost use Rattle.kahn_model.specs.RunningSum.{Remembers, network};
-ghost use Rattle.kahn_model.specs.RunningSum as spec;
+ghost use Rattle.sum_model.specs.RunningSum.{Remembers, network};
+ghost use Rattle.sum_model.specs.RunningSum as spec;
 
-use kahn_model::{RunningSum, Stream};
+use sum_model::{RunningSum, Stream};
 
 /// A running sum with the one integer that its delay keeps from step to step.
 #[derive(Clone, Copy, Debug, PartialEq, Eq)]

@@ -1,8 +1,8 @@
 use Rattle.std.proofs.Common.{◌≡◌, w64, to_z, of_z, ◌∙◌, sym, ap, Some}
 use Rattle.std.specs.Int.{int_wrapping_add}
 use Rattle.std.proofs.Math.Facts.{to_z-of_z}
-use Rattle.kahn_model.specs.RunningSum.{Remembers, value_of}
-use Rattle.kahn_model.proofs.NextInstant.{network-next, remembers-next}
+use Rattle.sum_model.specs.RunningSum.{Remembers, value_of}
+use Rattle.sum_model.proofs.NextInstant.{network-next, remembers-next}
 use Rattle.step_runner.proofs.machine.Machine.step.Goals as goal
 
 pub returns-clause-cell : goal.returns-clause-cell

@@ -1,5 +1,5 @@
 use Rattle.std.proofs.Common.{◌≡◌, map, take, Some}
-use Rattle.kahn_model.proofs.plain.known.Given as goal
+use Rattle.sum_model.proofs.plain.known.Given as goal
 
 abbrev pub invariant-loop-x : goal.invariant-loop-x
 invariant-loop-x l = l.row.items ≡ map Some (take l.x-index l.inputs)

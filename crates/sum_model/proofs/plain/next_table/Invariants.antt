@@ -1,6 +1,6 @@
 use Rattle.std.proofs.Common.{◌≡◌, ◌<◌, ℕ, length, get_or, None}
-use Rattle.kahn_model.specs.RunningSum.{turn, row_in}
-use Rattle.kahn_model.proofs.plain.next_table.Given as goal
+use Rattle.sum_model.specs.RunningSum.{turn, row_in}
+use Rattle.sum_model.proofs.plain.next_table.Given as goal
 
 abbrev pub invariant-loop-i : goal.invariant-loop-i
 invariant-loop-i l = record {

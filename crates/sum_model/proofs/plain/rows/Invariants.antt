@@ -1,6 +1,6 @@
 use Rattle.std.proofs.Common.{◌≡◌, length}
-use Rattle.kahn_model.specs.RunningSum.{after, row_in}
-use Rattle.kahn_model.proofs.plain.rows.Given as goal
+use Rattle.sum_model.specs.RunningSum.{after, row_in}
+use Rattle.sum_model.proofs.plain.rows.Given as goal
 
 abbrev pub invariant-loop-turn : goal.invariant-loop-turn
 invariant-loop-turn l = record {

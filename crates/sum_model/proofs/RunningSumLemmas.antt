@@ -5,8 +5,8 @@ use Rattle.std.specs.Option.{option_map}
 use Rattle.std.specs.Int.{int_wrapping_add, w64}
 use Rattle.std.proofs.lemmas.Option.{slice_get_past}
 use Rattle.std.proofs.lemmas.List.{get_or_past}
-use Rattle.kahn_model.specs.declared.running_sum.RunningSum.{RunningSum}
-use Rattle.kahn_model.specs.RunningSum.{Row, given, row_in, turn, fby, row_of}
+use Rattle.sum_model.specs.declared.running_sum.RunningSum.{RunningSum}
+use Rattle.sum_model.specs.RunningSum.{Row, given, row_in, turn, fby, row_of}
 
 known_at : (xs : List ℤ) (i : ℕ) → row_in (map Some xs) i ≡ given xs i
 known_at [] i = refl

@@ -1,8 +1,8 @@
 use Rattle.std.proofs.Common.{arith, ◌∙◌, ap, ◌≡◌, map, Some}
 use Rattle.std.proofs.lemmas.Grind.{common_steps}
-use Rattle.kahn_model.specs.RunningSum.{row_in}
-use Rattle.kahn_model.proofs.RunningSumLemmas.{row_in-known}
-use Rattle.kahn_model.proofs.plain.known.Goals as goal
+use Rattle.sum_model.specs.RunningSum.{row_in}
+use Rattle.sum_model.proofs.RunningSumLemmas.{row_in-known}
+use Rattle.sum_model.proofs.plain.known.Goals as goal
 
 pub returns-clause-cells : goal.returns-clause-cells
 returns-clause-cells c =

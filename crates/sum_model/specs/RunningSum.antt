@@ -3,9 +3,9 @@
 use Rattle.std.specs.Prelude.{◌≡◌, ℕ, zero, suc, ◌-◌, ◌*◌, ◌==◌, if◌then◌else◌, ℤ, List, Option, Some, None, length, slice_get, slice_index_or, option_and_then}
 use Rattle.std.specs.Option.{option_map}
 use Rattle.std.specs.Int.{int_wrapping_add, w64}
-use Rattle.kahn_model.specs.declared.running_sum.RunningSum.{RunningSum}
-use Rattle.kahn_model.specs.declared.running_sum.Stream.{Stream}
-use Rattle.kahn_model.specs.declared.running_sum.Stream.TheVariants as streams
+use Rattle.sum_model.specs.declared.running_sum.RunningSum.{RunningSum}
+use Rattle.sum_model.specs.declared.running_sum.Stream.{Stream}
+use Rattle.sum_model.specs.declared.running_sum.Stream.TheVariants as streams
 
 -- the cells of a stream by instant, counted from 0; None is Unknown
 abbrev pub Row : Type 0

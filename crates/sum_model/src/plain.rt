@@ -1,5 +1,5 @@
 ghost use Rattle.std.specs.Prelude.{◌≡◌, ◌<◌, length, IfOk};
-ghost use Rattle.kahn_model.specs.RunningSum.{fby, given, network, row_in, row_of, turn};
+ghost use Rattle.sum_model.specs.RunningSum.{fby, given, network, row_in, row_of, turn};
 
 use crate::{RunningSum, Stream};
 use std::alloc::{AllocError, Global};

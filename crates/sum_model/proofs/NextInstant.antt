@@ -4,10 +4,10 @@ use Rattle.std.specs.Prelude.{ℤ, option_and_then, ◌==◌, if◌then◌else�
 use Rattle.std.specs.Option.{option_map}
 use Rattle.std.proofs.lemmas.Bool.Decides.{nat_tests}
 use Rattle.std.specs.Int.{int_wrapping_add, w64}
-use Rattle.kahn_model.specs.declared.running_sum.RunningSum.{RunningSum}
-use Rattle.kahn_model.specs.declared.running_sum.Stream.{Stream}
-use Rattle.kahn_model.specs.declared.running_sum.Stream.TheVariants as streams
-use Rattle.kahn_model.specs.RunningSum.{Row, given, after, table, network, fby, delayed, row_of, value_of, Remembers}
+use Rattle.sum_model.specs.declared.running_sum.RunningSum.{RunningSum}
+use Rattle.sum_model.specs.declared.running_sum.Stream.{Stream}
+use Rattle.sum_model.specs.declared.running_sum.Stream.TheVariants as streams
+use Rattle.sum_model.specs.RunningSum.{Row, given, after, table, network, fby, delayed, row_of, value_of, Remembers}
 
 abbrev sum_of : Option ℤ → Option ℤ → Option ℤ
 sum_of a b = option_and_then (λ x. option_map (λ y. int_wrapping_add w64 x y) b) a

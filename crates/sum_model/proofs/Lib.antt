@@ -1,0 +1,2 @@
+pub mod NextInstant
+pub mod RunningSumLemmas
