@@ -89,6 +89,10 @@ module _ (n : ℕ) where
   abbrev pub Conditions : ℕ → Phrase (List (Equation Plain))
   Conditions D = KwWhere ▷ after KwRec (g.equations (IsEquation D false))
 
+  equations_is : (b : Bool) (ts : List Token) → re.equations n (expression n 198 Expr) (pattern n 198) (re.equation_at n 198) (re.doing_at n 198) b ts ≡ (re.equation_at n 198 b ts >>= λ e. collect n (starts KwAnd) (behind KwAnd (re.equation_at n 198 b)) (e.0 ∷ []) e.1 e.2)
+  unfolding re.equations
+  equations_is b ts = refl
+
   conditions_found : (D : ℕ) → D ≤ 198 → (o : Option (List (Equation Plain))) (ts m : List Token) → DefEnd m → length ts ≤ n → At (maybe (Conditions D)) o ts m
       → Quiet Expr ts × ((h : ℕ) × (h ≤ D) × (r.conditions n 198 ts ≡ Some (or_none o, h, m)))
   unfolding r.conditions
@@ -109,10 +113,6 @@ module _ (n : ℕ) where
       rec_start : (D : ℕ) (xs : List (Equation Plain)) (ts m : List Token) → At (g.equations (IsEquation D false)) xs ts m → starts KwRec ts ≡ false
       rec_start D [] ts m a = absurd a.2
       rec_start D (x ∷ xs) ts m a = let b = of_both (IsEquation D false) (many (KwAnd ▷ IsEquation D false)) (x, xs) ts m a in (eq_start D false x ts b.0 b.1).1
-
-      equations_is : (b : Bool) (ts : List Token) → re.equations n (expression n 198 Expr) (pattern n 198) (re.equation_at n 198) (re.doing_at n 198) b ts ≡ (re.equation_at n 198 b ts >>= λ e. collect n (starts KwAnd) (behind KwAnd (re.equation_at n 198 b)) (e.0 ∷ []) e.1 e.2)
-      unfolding re.equations
-      equations_is b ts = refl
 
   body_found : (D : ℕ) → D ≤ 199 → (x : BodyOf Plain) (ts m : List Token) → DefEnd m → length ts ≤ n → At (IsBody D) x ts m → (h : ℕ) × (h ≤ D) × (r.body n 198 ts ≡ Some (x, h, m))
   unfolding r.body
