@@ -1,8 +1,7 @@
 -- Each definition is read, and a file has one tree.
-use Rattle.std.proofs.Common.{◌≡◌, ℕ, zero, suc, ◌+◌, ◌-◌, ◌<◌, ◌≤◌, ◌⊎◌, inl, inr, Bool, true, false, List, [], ◌∷◌, ◌++◌, Option, Some, None, Result, Ok, Err, map, take, drop, max, length, length-append, refl, sym, ◌∙◌, ap, subst, arith, append_assoc, if◌then◌else◌, option_and_then, unwrap_or}
-use Rattle.std.specs.Prelude.{nat_lt, nat_eq, not, ◌&&◌, ◌||◌, option_map, IfOk}
+use Rattle.std.proofs.Common.{◌≡◌, ℕ, zero, suc, ◌+◌, ◌≤◌, inl, inr, Bool, true, false, List, [], ◌∷◌, ◌++◌, Option, Some, None, map, max, length, refl, sym, ◌∙◌, ap, subst, arith}
+use Rattle.std.specs.Prelude.{nat_eq, ◌&&◌, ◌||◌}
 use Rattle.std.proofs.lemmas.Bool.Decides.{eqb_tells}
-use Rattle.std.proofs.lemmas.List.{length-map}
 use Rattle.ls_ast.specs.declared.tree.BodyOf.{BodyOf}
 use Rattle.ls_ast.specs.declared.tree.DefOf.{DefOf}
 use Rattle.ls_ast.specs.declared.tree.DefOf.TheVariants as def
@@ -12,13 +11,13 @@ use Rattle.ls_ast.specs.declared.tree.Plain.{Plain}
 use Rattle.ls_base.specs.declared.Line.{Line}
 use Rattle.ls_base.specs.declared.Name.{Name}
 use Rattle.ls_lexer.specs.declared.token.Fixed.{Fixed}
-use Rattle.ls_lexer.specs.declared.token.Fixed.TheVariants.{KwAnd, KwLet, KwNode, KwRec, KwType, KwWhere, ParenLeft, Equal, Bar, Underscore}
+use Rattle.ls_lexer.specs.declared.token.Fixed.TheVariants.{KwAnd, KwLet, KwNode, KwRec, KwType, KwWhere, Equal, Bar}
 use Rattle.ls_lexer.specs.declared.token.Token.{Token}
 use Rattle.ls_lexer.specs.declared.token.Token.TheVariants.{Fixed as Word, Id, Cons}
 use Rattle.ls_parser.specs.declared.level.Level.TheVariants.{Expr}
 use Rattle.ls_parser.specs.Levels.{infix_of}
-use Rattle.ls_parser.specs.Making.{Tree, body_of, body_with, definition, or_none}
-use Rattle.ls_parser.specs.Notation.{Phrase, ◌▷◌, ◌◁◌, ◌⊗◌, ◌⇒◌, ◌or◌, many, some, separated, maybe, after, identifier, constructor}
+use Rattle.ls_parser.specs.Making.{body_of, definition, or_none}
+use Rattle.ls_parser.specs.Notation.{Phrase, ◌▷◌, ◌⊗◌, ◌⇒◌, many, some, separated, maybe, after, identifier, constructor}
 use Rattle.ls_parser.specs.Grammar as g
 use Rattle.ls_parser.specs.Grammar.{IsExpr, IsPat, IsEquation, IsBody, IsDef, IsDefinition, MayFollow}
 use Rattle.ls_parser.specs.Definitions as r
@@ -26,11 +25,11 @@ use Rattle.ls_parser.specs.Equations as re
 use Rattle.ls_parser.specs.Expressions as rx
 use Rattle.ls_parser.specs.Expressions.{expression}
 use Rattle.ls_parser.specs.Patterns.{pattern}
-use Rattle.ls_parser.specs.Reading.{Reader, ◌>>=◌, uncons, is_word, starts, word, name, constructor as constructor_read, taller, behind, collect}
-use Rattle.ls_parser.proofs.Front.{At, Got, append_nil, true_false, some_one, none_some, word_one, le_refl, le_trans}
-use Rattle.ls_parser.proofs.Parts.{of_word, of_end, of_both, of_made, of_none, of_more, not_longer, one_longer, then_some, if_yes, if_no, itself, word_reads, starts_yes, starts_no, name_reads, constructor_reads, taller_reads, max_le, suc_le, Sure, sure_behind, row_found, row_short}
+use Rattle.ls_parser.specs.Reading.{◌>>=◌, is_word, starts, behind, collect}
+use Rattle.ls_parser.proofs.Front.{At, none_some, le_refl, le_trans}
+use Rattle.ls_parser.proofs.Parts.{of_word, of_both, of_made, not_longer, then_some, if_yes, if_no, word_reads, starts_yes, starts_no, name_reads, constructor_reads, taller_reads, max_le, suc_le, Sure, row_found, row_short}
 use Rattle.ls_parser.proofs.FindExpr.{Quiet, quiet_word, sure_expression, rest_few}
-use Rattle.ls_parser.proofs.FindEqs.{Any, sure_pattern, pat_head, pat_takes, separated_found, of_after, EqsEnd, eq_start, sure_both_kinds, skip_short, skips, unskipped}
+use Rattle.ls_parser.proofs.FindEqs.{Any, sure_pattern, pat_head, pat_takes, separated_found, of_after, eq_start, sure_both_kinds, skip_short, skips, unskipped}
 
 -- what follows a definition
 abbrev pub DefEnd : List Token → Type 0
@@ -46,7 +45,7 @@ nothing_end = ((refl, λ p e. absurd (none_some p e)), refl, refl, refl)
 abbrev pub words : List (Line × Token) → List Token
 words = map (λ p. p.1)
 
-follows_end : (ts : List (Line × Token)) → MayFollow ts → DefEnd (words ts) × (r.ends (words ts) ≡ true)
+pub follows_end : (ts : List (Line × Token)) → MayFollow ts → DefEnd (words ts) × (r.ends (words ts) ≡ true)
 unfolding r.ends
 follows_end [] f = (nothing_end, refl)
 follows_end (t ∷ ts) (inl e) = (word_end KwLet refl refl refl refl refl (words (t ∷ ts)) (words ts) (ap (λ t. t ∷ words ts) e), ap (λ t. is_word KwLet t || is_word KwType t) e)
@@ -78,9 +77,11 @@ module _ (n : ℕ) where
       let few1 = le_trans (length b2.0) (length b1.0) n (not_longer identifier p.0 b1.0 b2.0 b2.1) (rest_few n (Word KwType) ts b1.0 b1.1 few) in
       let few2 = le_trans (length (re.skip Bar b3.0)) (length b3.0) n (skip_short Bar b3.0) (rest_few n (Word Equal) b2.0 b3.0 b3.1 few1) in
       let c = cases_found p.1 (re.skip Bar b3.0) m end.3 few2 b4 in
-      let small : 1 ≤ 200 = omega arith in
-      (c.0 + 1, if_yes _ _ _ _ (starts_yes KwType ts b1.0 b1.1) (then_some _ _ _ _ (word_reads KwType ts b1.0 b1.1) (then_some _ _ _ _ (name_reads p.0 b1.0 b2.0 b2.1) (then_some _ _ _ _ (word_reads Equal b2.0 b3.0 b3.1)
-        (then_some _ _ _ _ c.2 (then_some _ _ _ _ (taller_reads c.0 0 c.1 small) (λ i. Some (sym made.1 i, c.0 + 1, m))))))))
+      let small : 1 ≤ 200 = omega arith in (
+        c.0 + 1,
+        if_yes _ _ _ _ (starts_yes KwType ts b1.0 b1.1) (then_some _ _ _ _ (word_reads KwType ts b1.0 b1.1) (then_some _ _ _ _ (name_reads p.0 b1.0 b2.0 b2.1) (then_some _ _ _ _ (word_reads Equal b2.0 b3.0 b3.1)
+            (then_some _ _ _ _ c.2 (then_some _ _ _ _ (taller_reads c.0 0 c.1 small) (λ i. Some (sym made.1 i, c.0 + 1, m))))))),
+      )
     where
       case_start : (xs : List Name) (ts m : List Token) → At (separated Bar constructor) xs ts m → starts Bar ts ≡ false
       case_start [] ts m a = absurd a.2
@@ -107,7 +108,7 @@ module _ (n : ℕ) where
       let low : D ≤ 200 = omega arith in
       let s = sure_both_kinds n 198 D le low in
       let c = separated_found n D (starts KwAnd) KwAnd (re.equation_at n 198 false) (IsEquation D false) (Quiet Expr) (s.0 false) (λ x ts m a. let c = of_word (IsEquation D false) KwAnd x ts m a in starts_yes KwAnd ts c.0 c.1)
-          (λ ts m is. quiet_word KwAnd refl refl Expr ts m is) xs (re.skip KwRec b1.0) m end.1 end.0 few1 b2 in
+      (λ ts m is. quiet_word KwAnd refl refl Expr ts m is) xs (re.skip KwRec b1.0) m end.1 end.0 few1 b2 in
       (quiet_word KwWhere refl refl Expr ts b1.0 b1.1, (c.0, c.1, if_yes _ _ _ _ (starts_yes KwWhere ts b1.0 b1.1) (then_some _ _ _ _ (word_reads KwWhere ts b1.0 b1.1) (equations_is false (re.skip KwRec b1.0) ∙ c.2))))
     where
       rec_start : (D : ℕ) (xs : List (Equation Plain)) (ts m : List Token) → At (g.equations (IsEquation D false)) xs ts m → starts KwRec ts ≡ false
@@ -182,17 +183,21 @@ module _ (n : ℕ) where
           let w = of_word (identifier ⊗ (many (IsPat 199) ⊗ (Equal ▷ IsBody 199))) KwLet p ts m (a.0, a.1, b.2) in
           let i = of_both identifier (many (IsPat 199) ⊗ (Equal ▷ IsBody 199)) p w.0 m w.2 in
           let plain = starts_no KwNode (Id p.0) w.0 i.0 (i.1.1 ∙ ap (λ u. u ++ i.0) i.1.2) refl in
-          let f = function_found false line p.0 p.1.0 p.1.1 w.0 m refl end (rest_few n (Word KwLet) ts w.0 w.1 few) w.2 in
-          (f.0, if_no _ _ _ _ (starts_no KwType (Word KwLet) ts w.0 w.1 refl) (then_some _ _ _ _ (word_reads KwLet ts w.0 w.1)
-            ((λ j. r.function n 199 (plain j) line (unskipped KwNode w.0 plain j)) ∙ f.1 ∙ (λ j. Some (sym b.1 j, f.0, m)))))
+          let f = function_found false line p.0 p.1.0 p.1.1 w.0 m refl end (rest_few n (Word KwLet) ts w.0 w.1 few) w.2 in (
+            f.0,
+            if_no _ _ _ _ (starts_no KwType (Word KwLet) ts w.0 w.1 refl) (then_some _ _ _ _ (word_reads KwLet ts w.0 w.1)
+                ((λ j. r.function n 199 (plain j) line (unskipped KwNode w.0 plain j)) ∙ f.1 ∙ (λ j. Some (sym b.1 j, f.0, m)))),
+          )
       which (inr (inr b)) =
           let p = b.0 in
           let w = of_word (KwNode ▷ (identifier ⊗ (some (IsPat 199) ⊗ (Equal ▷ IsBody 199)))) KwLet p ts m (a.0, a.1, b.2) in
           let v = of_word (identifier ⊗ (some (IsPat 199) ⊗ (Equal ▷ IsBody 199))) KwNode p w.0 m w.2 in
           let s = some_params p.1.0 p.0 p.1.1 v.0 m v.2 in
-          let f = function_found true line p.0 p.1.0 p.1.1 v.0 m s.0 end (rest_few n (Word KwNode) w.0 v.0 v.1 (rest_few n (Word KwLet) ts w.0 w.1 few)) s.1 in
-          (f.0, if_no _ _ _ _ (starts_no KwType (Word KwLet) ts w.0 w.1 refl) (then_some _ _ _ _ (word_reads KwLet ts w.0 w.1)
-            ((λ j. r.function n 199 (starts_yes KwNode w.0 v.0 v.1 j) line (skips KwNode w.0 v.0 v.1 j)) ∙ f.1 ∙ (λ j. Some (sym b.1 j, f.0, m)))))
+          let f = function_found true line p.0 p.1.0 p.1.1 v.0 m s.0 end (rest_few n (Word KwNode) w.0 v.0 v.1 (rest_few n (Word KwLet) ts w.0 w.1 few)) s.1 in (
+            f.0,
+            if_no _ _ _ _ (starts_no KwType (Word KwLet) ts w.0 w.1 refl) (then_some _ _ _ _ (word_reads KwLet ts w.0 w.1)
+                ((λ j. r.function n 199 (starts_yes KwNode w.0 v.0 v.1 j) line (skips KwNode w.0 v.0 v.1 j)) ∙ f.1 ∙ (λ j. Some (sym b.1 j, f.0, m)))),
+          )
 
   pub followed_found : (line : Line) (x : DefOf Plain) (ts m : List Token) → DefEnd m → r.ends m ≡ true → length ts ≤ n → At (IsDef 200 line) x ts m → r.followed n line ts ≡ Some (x, m)
   unfolding r.followed

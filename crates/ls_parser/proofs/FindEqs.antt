@@ -1,6 +1,6 @@
 -- Each pattern, equation and handler is read.
-use Rattle.std.proofs.Common.{◌≡◌, ℕ, zero, suc, ◌+◌, ◌-◌, ◌<◌, ◌≤◌, ◌⊎◌, inl, inr, Bool, true, false, List, [], ◌∷◌, ◌++◌, Option, Some, None, max, length, length-append, refl, sym, ◌∙◌, ap, subst, arith, append_assoc, if◌then◌else◌, option_and_then, unwrap_or}
-use Rattle.std.specs.Prelude.{nat_lt, nat_eq, not, ◌&&◌, ◌||◌}
+use Rattle.std.proofs.Common.{◌≡◌, ℕ, zero, suc, ◌+◌, ◌≤◌, ◌⊎◌, inl, inr, Bool, true, false, List, [], ◌∷◌, ◌++◌, Option, Some, None, max, length, length-append, refl, sym, ◌∙◌, ap, subst, arith, append_assoc, if◌then◌else◌}
+use Rattle.std.specs.Prelude.{not, ◌&&◌, ◌||◌}
 use Rattle.ls_ast.specs.declared.tree.Arm.{Arm}
 use Rattle.ls_ast.specs.declared.tree.Equation.{Equation}
 use Rattle.ls_ast.specs.declared.tree.Equation.TheVariants as eq
@@ -15,18 +15,18 @@ use Rattle.ls_base.specs.declared.Name.{Name}
 use Rattle.ls_lexer.specs.declared.token.Fixed.{Fixed}
 use Rattle.ls_lexer.specs.declared.token.Fixed.TheVariants.{KwAnd, KwAutomaton, KwClock, KwContinue, KwDo, KwDone, KwElse, KwEmit, KwEnd, KwEvery, KwFalse, KwIn, KwLast, KwLet, KwMatch, KwPresent, KwRec, KwReset, KwThen, KwTrue, KwUnless, KwUntil, KwWith, ParenLeft, ParenRight, Comma, Equal, Arrow, Bar, Underscore}
 use Rattle.ls_lexer.specs.declared.token.Token.{Token}
-use Rattle.ls_lexer.specs.declared.token.Token.TheVariants.{Fixed as Word, Id, Cons, Int, Char, Text, Prefix}
+use Rattle.ls_lexer.specs.declared.token.Token.TheVariants.{Fixed as Word, Id, Cons}
 use Rattle.ls_parser.specs.declared.level.Level.TheVariants.{Expr}
-use Rattle.ls_parser.specs.Making.{Tree, guard, arm_of, arms_of, test_of, state_of, state_with, handler_of, handler_with, guards_that, with_strong, with_weak, or_none, true_name, false_name}
-use Rattle.ls_parser.specs.Notation.{Phrase, ◌▷◌, ◌◁◌, ◌⊗◌, ◌⇒◌, ◌or◌, many, some, separated, maybe, after, identifier, constructor}
+use Rattle.ls_parser.specs.Making.{Tree, guard, arm_of, arms_of, test_of, state_of, handler_of, guards_that, with_strong, with_weak, or_none}
+use Rattle.ls_parser.specs.Notation.{Phrase, ◌▷◌, ◌◁◌, ◌⊗◌, ◌⇒◌, many, some, separated, maybe, after, identifier, constructor}
 use Rattle.ls_parser.specs.Grammar as g
 use Rattle.ls_parser.specs.Grammar.{IsExpr, IsPat, IsEquation, IsHandler}
 use Rattle.ls_parser.specs.Patterns as rp
 use Rattle.ls_parser.specs.Equations as r
 use Rattle.ls_parser.specs.Expressions.{expression}
-use Rattle.ls_parser.specs.Reading.{Reader, ◌>>=◌, uncons, is_word, starts, word, name, constructor as constructor_read, taller, behind, collect}
-use Rattle.ls_parser.proofs.Front.{At, Got, append_nil, true_false, some_of, branch_of, some_one, none_some, word_one, le_refl, le_trans}
-use Rattle.ls_parser.proofs.Parts.{of_word, of_end, of_both, of_made, of_none, of_more, not_longer, one_longer, then_some, if_yes, if_no, itself, word_reads, starts_yes, starts_no, name_reads, constructor_reads, taller_reads, max_le, suc_le, Sure, sure_behind, sure_both, sure_form, row_found, row_short}
+use Rattle.ls_parser.specs.Reading.{Reader, ◌>>=◌, is_word, starts, behind, collect}
+use Rattle.ls_parser.proofs.Front.{At, Got, append_nil, le_refl, le_trans}
+use Rattle.ls_parser.proofs.Parts.{of_word, of_end, of_both, of_made, of_none, of_more, not_longer, one_longer, then_some, if_yes, if_no, itself, word_reads, starts_yes, starts_no, name_reads, constructor_reads, taller_reads, max_le, suc_le, Sure, sure_behind, row_found, row_short}
 use Rattle.ls_parser.proofs.FindExpr.{Quiet, quiet_word, sure_expression, rest_few}
 
 abbrev pub Any : List Token → Type 0
@@ -53,8 +53,9 @@ pub not_right : (D : ℕ) (x : Pat) (ts m : List Token) → At (IsPat D) x ts m 
 not_right D x ts m a =
     let b = pat_head D x ts m a in
     starts_no ParenRight b.0 ts b.1 b.2 (elim b.3 [
-      inl p ↦ ap (is_word ParenRight) p.1
-    | inr q ↦ elim q [ inl e ↦ ap (is_word ParenRight) e | inr e ↦ ap (is_word ParenRight) e ] ])
+      | inl p ↦ ap (is_word ParenRight) p.1
+      | inr q ↦ elim q [ inl e ↦ ap (is_word ParenRight) e | inr e ↦ ap (is_word ParenRight) e ]
+    ])
 
 pub pat_takes : (D : ℕ) (x : Pat) (ts m : List Token) → At (IsPat D) x ts m → length m + 1 ≤ length ts
 pat_takes D x ts m a =
@@ -95,11 +96,11 @@ module _ (n d : ℕ) (small : suc d ≤ 200) (P : Reader Pat) (sp : Sure Pat n d
       let b2 = of_end (IsPat d) ParenRight x b1.0 m b1.2 in
       let c = sp.finds b1.0 (Word ParenRight ∷ m) x (rest_few n (Word ParenLeft) ts b1.0 b1.1 few) tt b2 in
       inside_found x (c.0 + 1) ts b1.0 m b1.1 (suc_le c.0 d c.1)
-        (if_no _ _ _ _ (not_right d x b1.0 (Word ParenRight ∷ m) b2)
-          (then_some _ _ _ _ c.2
-            (if_no _ _ _ _ (starts_no Comma (Word ParenRight) (Word ParenRight ∷ m) m refl refl)
-              (then_some _ _ _ _ (word_reads ParenRight (Word ParenRight ∷ m) m refl)
-                (then_some _ _ _ _ (taller_reads c.0 d c.1 small) refl)))))
+      (if_no _ _ _ _ (not_right d x b1.0 (Word ParenRight ∷ m) b2)
+      (then_some _ _ _ _ c.2
+      (if_no _ _ _ _ (starts_no Comma (Word ParenRight) (Word ParenRight ∷ m) m refl refl)
+      (then_some _ _ _ _ (word_reads ParenRight (Word ParenRight ∷ m) m refl)
+      (then_some _ _ _ _ (taller_reads c.0 d c.1 small) refl)))))
 
   tuple_found : (x : Pat) (ts m : List Token) → length ts ≤ n → At ((ParenLeft ▷ ((IsPat d ⊗ some (Comma ▷ IsPat d)) ◁ ParenRight)) ⇒ (λ p. pat.Tuple (p.0 ∷ p.1))) x ts m → PatFound x ts m
   unfolding rp.inner rp.parts_from
@@ -116,14 +117,14 @@ module _ (n d : ℕ) (small : suc d ≤ 200) (P : Reader Pat) (sp : Sure Pat n d
       let c = sp.finds b1.0 b3.0 p.0 few1 tt b3.1 in
       let short = row_short n d (starts Comma) (behind Comma P) (Comma ▷ IsPat d) Any (sure_behind Comma sp) comma_begins (λ x ts m a. tt) comma_takes p.1 b3.0 (Word ParenRight ∷ m) b4.1 in
       let e = row_found n d (starts Comma) (behind Comma P) (Comma ▷ IsPat d) Any (sure_behind Comma sp) comma_begins (λ x ts m a. tt) n (p.0 ∷ []) p.1 c.0 b3.0 (Word ParenRight ∷ m)
-          (le_trans (length p.1) (length b3.0) n short few2) (inr (starts_no Comma (Word ParenRight) (Word ParenRight ∷ m) m refl refl)) c.1 few2 tt b4.1 in
+      (le_trans (length p.1) (length b3.0) n short few2) (inr (starts_no Comma (Word ParenRight) (Word ParenRight ∷ m) m refl refl)) c.1 few2 tt b4.1 in
       inside_found x (e.0 + 1) ts b1.0 m b1.1 (suc_le e.0 d e.1)
-        (if_no _ _ _ _ (not_right d p.0 b1.0 b3.0 b3.1)
-          (then_some _ _ _ _ c.2
-            (if_yes _ _ _ _ (starts_yes Comma b3.0 b4.0.0 b4.0.1)
-              (then_some _ _ _ _ e.2
-                (then_some _ _ _ _ (word_reads ParenRight (Word ParenRight ∷ m) m refl)
-                  (then_some _ _ _ _ (taller_reads e.0 d e.1 small) (λ i. Some (sym made.1 i, e.0 + 1, m))))))))
+      (if_no _ _ _ _ (not_right d p.0 b1.0 b3.0 b3.1)
+      (then_some _ _ _ _ c.2
+      (if_yes _ _ _ _ (starts_yes Comma b3.0 b4.0.0 b4.0.1)
+      (then_some _ _ _ _ e.2
+      (then_some _ _ _ _ (word_reads ParenRight (Word ParenRight ∷ m) m refl)
+      (then_some _ _ _ _ (taller_reads e.0 d e.1 small) (λ i. Some (sym made.1 i, e.0 + 1, m))))))))
 
   layer_found : (x : Pat) (ts m : List Token) → length ts ≤ n → At (g.pattern (IsPat d)) x ts m → PatFound x ts m
   unfolding rp.layer rp.inner
@@ -131,20 +132,26 @@ module _ (n d : ℕ) (small : suc d ≤ 200) (P : Reader Pat) (sp : Sure Pat n d
     where
       which : g.pattern (IsPat d) x a.0 → PatFound x ts m
       which (inl b) =
-          let first : ts ≡ Id b.0 ∷ m = a.1 ∙ ap (λ u. u ++ m) b.2 in
-          (1, one_low, if_no _ _ _ _ (starts_no ParenLeft (Id b.0) ts m first refl)
-            (if_no _ _ _ _ (starts_no Underscore (Id b.0) ts m first refl)
-              (then_some _ _ _ _ (name_reads b.0 ts m (a.0, a.1, b.2)) (λ i. Some (sym b.1 i, 1, m)))))
+          let first : ts ≡ Id b.0 ∷ m = a.1 ∙ ap (λ u. u ++ m) b.2 in (
+            1,
+            one_low,
+            if_no _ _ _ _ (starts_no ParenLeft (Id b.0) ts m first refl)
+                (if_no _ _ _ _ (starts_no Underscore (Id b.0) ts m first refl)
+                (then_some _ _ _ _ (name_reads b.0 ts m (a.0, a.1, b.2)) (λ i. Some (sym b.1 i, 1, m)))),
+          )
       which (inr (inl b)) =
-          let first : ts ≡ Word Underscore ∷ m = a.1 ∙ ap (λ u. u ++ m) b.1 in
-          (1, one_low, if_no _ _ _ _ (starts_no ParenLeft (Word Underscore) ts m first refl)
-            (if_yes _ _ _ _ (starts_yes Underscore ts m first)
-              (then_some _ _ _ _ (word_reads Underscore ts m first) (λ i. Some (sym b.0 i, 1, m)))))
+          let first : ts ≡ Word Underscore ∷ m = a.1 ∙ ap (λ u. u ++ m) b.1 in (
+            1,
+            one_low,
+            if_no _ _ _ _ (starts_no ParenLeft (Word Underscore) ts m first refl)
+                (if_yes _ _ _ _ (starts_yes Underscore ts m first)
+                (then_some _ _ _ _ (word_reads Underscore ts m first) (λ i. Some (sym b.0 i, 1, m)))),
+          )
       which (inr (inr (inl b))) =
           let first : ts ≡ Word ParenLeft ∷ Word ParenRight ∷ m = a.1 ∙ ap (λ u. u ++ m) b.1 in
           inside_found x 1 ts (Word ParenRight ∷ m) m first one_low
-            (if_yes _ _ _ _ (starts_yes ParenRight (Word ParenRight ∷ m) m refl)
-              (then_some _ _ _ _ (word_reads ParenRight (Word ParenRight ∷ m) m refl) (λ i. Some (sym b.0 i, 1, m))))
+          (if_yes _ _ _ _ (starts_yes ParenRight (Word ParenRight ∷ m) m refl)
+          (then_some _ _ _ _ (word_reads ParenRight (Word ParenRight ∷ m) m refl) (λ i. Some (sym b.0 i, 1, m))))
       which (inr (inr (inr (inl b)))) = group_found x ts m few (a.0, a.1, b)
       which (inr (inr (inr (inr b)))) = tuple_found x ts m few (a.0, a.1, b)
 
@@ -153,8 +160,10 @@ unfolding rp.pattern
 sure_pattern n zero zero le small = record { finds = λ ts m x few follow a. absurd a.2 }
 sure_pattern n zero (suc D) le small = absurd (omega arith)
 sure_pattern n (suc f) zero le small = record { finds = λ ts m x few follow a. absurd a.2 }
-sure_pattern n (suc f) (suc D) le small = record { finds = λ ts m x few follow a.
-    layer_found n D small (rp.pattern n f) (sure_pattern n f D (let lower : D ≤ f = omega arith in lower) (let low : D ≤ 200 = omega arith in low)) x ts m few a }
+sure_pattern n (suc f) (suc D) le small = record {
+  finds = λ ts m x few follow a.
+      layer_found n D small (rp.pattern n f) (sure_pattern n f D (let lower : D ≤ f = omega arith in lower) (let low : D ≤ 200 = omega arith in low)) x ts m few a;
+}
 
 -- phrases between which a word stands
 
@@ -298,8 +307,9 @@ eq_start (suc D) b x ts m a = start b a.2
         let b1 = of_both (IsPat D) (Equal ▷ IsExpr D Expr) c.0 ts m (a.0, a.1, c.2) in
         let f = pat_head D c.0.0 ts b1.0 b1.1 in
         elim f.3 [
-          inl p ↦ let is = f.2 ∙ ap (λ t. t ∷ f.1) p.1 in (ap r.begins_equation is, starts_no KwRec (Id p.0) ts f.1 is refl)
-        | inr q ↦ elim q [ inl e ↦ eq_words Underscore ts f.1 (f.2 ∙ ap (λ t. t ∷ f.1) e) refl refl | inr e ↦ eq_words ParenLeft ts f.1 (f.2 ∙ ap (λ t. t ∷ f.1) e) refl refl ] ]
+          | inl p ↦ let is = f.2 ∙ ap (λ t. t ∷ f.1) p.1 in (ap r.begins_equation is, starts_no KwRec (Id p.0) ts f.1 is refl)
+          | inr q ↦ elim q [ inl e ↦ eq_words Underscore ts f.1 (f.2 ∙ ap (λ t. t ∷ f.1) e) refl refl | inr e ↦ eq_words ParenLeft ts f.1 (f.2 ∙ ap (λ t. t ∷ f.1) e) refl refl ]
+        ]
     inner_start b (inr (inl c)) = by_word KwEmit refl refl c.2.0 c.2.1
     inner_start b (inr (inr (inl c))) = by_word KwReset refl refl c.2.0 c.2.1
     inner_start b (inr (inr (inr (inl c)))) = by_word KwMatch refl refl c.2.0 c.2.1
@@ -329,7 +339,7 @@ module _ (n d : ℕ) (small : suc d ≤ 200) (E : Reader Tree) (P : Reader Pat) 
   unfolding r.equations
   equations_found b xs ts m end few a =
       separated_found n d (starts KwAnd) KwAnd (Q b) (IsEquation d b) (Quiet Expr) (sq b) (λ x ts m a. let c = of_word (IsEquation d b) KwAnd x ts m a in starts_yes KwAnd ts c.0 c.1)
-        (λ ts m is. quiet_word KwAnd refl refl Expr ts m is) xs ts m end.1 end.0 few a
+      (λ ts m is. quiet_word KwAnd refl refl Expr ts m is) xs ts m end.1 end.0 few a
 
   abbrev pub Binds : Fixed → Phrase (Name × Tree)
   Binds w = w ▷ (identifier ⊗ (Equal ▷ Ex))
@@ -342,13 +352,15 @@ module _ (n d : ℕ) (small : suc d ≤ 200) (E : Reader Tree) (P : Reader Pat) 
       let b3 = of_word Ex Equal p.1 b2.0 m b2.2 in
       let few1 = rest_few n (Word w) ts b1.0 b1.1 few in
       let few2 = le_trans (length b2.0) (length b1.0) n (not_longer identifier p.0 b1.0 b2.0 b2.1) few1 in
-      let c = se.finds b3.0 m p.1 (rest_few n (Word Equal) b2.0 b3.0 b3.1 few2) quiet b3.2 in
-      (c.0 + 1, suc_le c.0 d c.1,
+      let c = se.finds b3.0 m p.1 (rest_few n (Word Equal) b2.0 b3.0 b3.1 few2) quiet b3.2 in (
+        c.0 + 1,
+        suc_le c.0 d c.1,
         then_some _ _ _ _ (word_reads w ts b1.0 b1.1)
-          (then_some _ _ _ _ (name_reads p.0 b1.0 b2.0 b2.1)
+            (then_some _ _ _ _ (name_reads p.0 b1.0 b2.0 b2.1)
             (then_some _ _ _ _ (word_reads Equal b2.0 b3.0 b3.1)
-              (then_some _ _ _ _ c.2
-                (then_some _ _ _ _ (taller_reads c.0 d c.1 small) refl)))))
+            (then_some _ _ _ _ c.2
+            (then_some _ _ _ _ (taller_reads c.0 d c.1 small) refl)))),
+      )
 
   plain_found : (x : Equation Plain) (ts m : List Token) → Quiet Expr m → length ts ≤ n → At ((IsPat d ⊗ (Equal ▷ Ex)) ⇒ (λ p. eq.Plain p.0 p.1)) x ts m → EqFound (Equation Plain) (r.plain_equation n E P Q H) x ts m
   unfolding r.plain_equation
@@ -360,9 +372,11 @@ module _ (n d : ℕ) (small : suc d ≤ 200) (E : Reader Tree) (P : Reader Pat) 
       let few1 = le_trans (length b1.0) (length ts) n (not_longer (IsPat d) p.0 ts b1.0 b1.1) few in
       let c = sp.finds ts b1.0 p.0 few tt b1.1 in
       let e = se.finds b2.0 m p.1 (rest_few n (Word Equal) b1.0 b2.0 b2.1 few1) quiet b2.2 in
-      let high = max_le c.0 e.0 d c.1 e.1 in
-      (max c.0 e.0 + 1, suc_le (max c.0 e.0) d high,
-        then_some _ _ _ _ c.2 (then_some _ _ _ _ (word_reads Equal b1.0 b2.0 b2.1) (then_some _ _ _ _ e.2 (then_some _ _ _ _ (taller_reads (max c.0 e.0) d high small) (λ i. Some (sym made.1 i, max c.0 e.0 + 1, m))))))
+      let high = max_le c.0 e.0 d c.1 e.1 in (
+        max c.0 e.0 + 1,
+        suc_le (max c.0 e.0) d high,
+        then_some _ _ _ _ c.2 (then_some _ _ _ _ (word_reads Equal b1.0 b2.0 b2.1) (then_some _ _ _ _ e.2 (then_some _ _ _ _ (taller_reads (max c.0 e.0) d high small) (λ i. Some (sym made.1 i, max c.0 e.0 + 1, m))))),
+      )
 
   reset_found : (b : Bool) (x : Equation Plain) (ts m : List Token) → Quiet Expr m → length ts ≤ n → At ((KwReset ▷ (g.equations (IsEquation d b) ⊗ (KwEvery ▷ Ex))) ⇒ (λ p. eq.Reset p.0 p.1)) x ts m → EqFound (Equation Plain) (r.reset n E P Q H b) x ts m
   unfolding r.reset
@@ -376,34 +390,40 @@ module _ (n d : ℕ) (small : suc d ≤ 200) (E : Reader Tree) (P : Reader Pat) 
       let few2 = le_trans (length b2.0) (length b1.0) n (not_longer (g.equations (IsEquation d b)) p.0 b1.0 b2.0 b2.1) few1 in
       let c = equations_found b p.0 b1.0 b2.0 (quiet_word KwEvery refl refl Expr b2.0 b3.0 b3.1, starts_no KwAnd (Word KwEvery) b2.0 b3.0 b3.1 refl) few1 b2.1 in
       let e = se.finds b3.0 m p.1 (rest_few n (Word KwEvery) b2.0 b3.0 b3.1 few2) quiet b3.2 in
-      let high = max_le c.0 e.0 d c.1 e.1 in
-      (max c.0 e.0 + 1, suc_le (max c.0 e.0) d high,
-        then_some _ _ _ _ (word_reads KwReset ts b1.0 b1.1) (then_some _ _ _ _ c.2 (then_some _ _ _ _ (word_reads KwEvery b2.0 b3.0 b3.1) (then_some _ _ _ _ e.2 (then_some _ _ _ _ (taller_reads (max c.0 e.0) d high small) (λ i. Some (sym made.1 i, max c.0 e.0 + 1, m)))))))
+      let high = max_le c.0 e.0 d c.1 e.1 in (
+        max c.0 e.0 + 1,
+        suc_le (max c.0 e.0) d high,
+        then_some _ _ _ _ (word_reads KwReset ts b1.0 b1.1) (then_some _ _ _ _ c.2 (then_some _ _ _ _ (word_reads KwEvery b2.0 b3.0 b3.1) (then_some _ _ _ _ e.2 (then_some _ _ _ _ (taller_reads (max c.0 e.0) d high small) (λ i. Some (sym made.1 i, max c.0 e.0 + 1, m)))))),
+      )
 
   do_end : (w : Fixed) (m k : List Token) → m ≡ Word w ∷ k → (l : (Quiet Expr m) × (starts KwAnd m ≡ false)) → r.opens w ≡ false → DoEnd m
   do_end w m k is l e = (l, not_equation w m k is e)
 
   handler_sure : Sure (Handler Plain) n d (r.handler n E P Q H) Han Any
   unfolding r.handler
-  handler_sure = record { finds = λ ts m x few follow a.
-      let b = of_end (IsHandler d) KwDone x ts m a in
-      let k = Word KwDone ∷ m in
-      let c = sh.finds ts (Word KwDone ∷ m) x few (do_end KwDone (Word KwDone ∷ m) m refl (quiet_word KwDone refl refl Expr (Word KwDone ∷ m) m refl, starts_no KwAnd (Word KwDone) (Word KwDone ∷ m) m refl refl) refl) b in
-      (c.0, c.1, then_some _ _ _ _ c.2 (then_some _ _ _ _ (word_reads KwDone (Word KwDone ∷ m) m refl) refl)) }
+  handler_sure = record {
+    finds = λ ts m x few follow a.
+        let b = of_end (IsHandler d) KwDone x ts m a in
+        let k = Word KwDone ∷ m in
+        let c = sh.finds ts (Word KwDone ∷ m) x few (do_end KwDone (Word KwDone ∷ m) m refl (quiet_word KwDone refl refl Expr (Word KwDone ∷ m) m refl, starts_no KwAnd (Word KwDone) (Word KwDone ∷ m) m refl refl) refl) b in
+        (c.0, c.1, then_some _ _ _ _ c.2 (then_some _ _ _ _ (word_reads KwDone (Word KwDone ∷ m) m refl) refl));
+  }
 
   abbrev pub Arms : Phrase (Arm Plain)
   Arms = g.arm Ex (IsPat d) (IsEquation d) (IsHandler d) (g.IsGuard d)
 
   arm_sure : Sure (Arm Plain) n d (r.arm n E P Q H) Arms Any
   unfolding r.arm
-  arm_sure = record { finds = λ ts m x few follow a.
-      let made = of_made (g.case_name ⊗ (Arrow ▷ Han)) (λ p. arm_of (Some p.0) p.1) x ts m a in
-      let p = made.0 in
-      let b1 = of_both g.case_name (Arrow ▷ Han) p ts m made.2 in
-      let b2 = of_word Han Arrow p.1 b1.0 m b1.2 in
-      let few1 = le_trans (length b1.0) (length ts) n (not_longer g.case_name p.0 ts b1.0 b1.1) few in
-      let c = handler_sure.finds b2.0 m p.1 (rest_few n (Word Arrow) b1.0 b2.0 b2.1 few1) tt b2.2 in
-      (c.0, c.1, then_some _ _ _ _ (case_reads p.0 ts b1.0 b1.1) (then_some _ _ _ _ (word_reads Arrow b1.0 b2.0 b2.1) (then_some _ _ _ _ c.2 (λ i. Some (sym made.1 i, c.0, m))))) }
+  arm_sure = record {
+    finds = λ ts m x few follow a.
+        let made = of_made (g.case_name ⊗ (Arrow ▷ Han)) (λ p. arm_of (Some p.0) p.1) x ts m a in
+        let p = made.0 in
+        let b1 = of_both g.case_name (Arrow ▷ Han) p ts m made.2 in
+        let b2 = of_word Han Arrow p.1 b1.0 m b1.2 in
+        let few1 = le_trans (length b1.0) (length ts) n (not_longer g.case_name p.0 ts b1.0 b1.1) few in
+        let c = handler_sure.finds b2.0 m p.1 (rest_few n (Word Arrow) b1.0 b2.0 b2.1 few1) tt b2.2 in
+        (c.0, c.1, then_some _ _ _ _ (case_reads p.0 ts b1.0 b1.1) (then_some _ _ _ _ (word_reads Arrow b1.0 b2.0 b2.1) (then_some _ _ _ _ c.2 (λ i. Some (sym made.1 i, c.0, m)))));
+  }
 
   arm_first : (x : Arm Plain) (ts m : List Token) → At Arms x ts m → (starts Underscore ts ≡ false) × (starts Bar ts ≡ false)
   arm_first x ts m a =
@@ -415,7 +435,7 @@ module _ (n d : ℕ) (small : suc d ≤ 200) (E : Reader Tree) (P : Reader Pat) 
   unfolding r.arms
   arms_found xs ts m stop few a =
       separated_found n d r.begins_arm Bar (r.arm n E P Q H) Arms Any arm_sure
-        (λ x ts m a. let b = of_word Arms Bar x ts m a in arm_begins ts b.0 b.1 (arm_first x b.0 m b.2).0) (λ ts m is. tt) xs ts m stop tt few a
+      (λ x ts m a. let b = of_word Arms Bar x ts m a in arm_begins ts b.0 b.1 (arm_first x b.0 m b.2).0) (λ ts m is. tt) xs ts m stop tt few a
 
   abbrev pub Other : Phrase (Arm Plain)
   Other = g.other_arm Ex (IsPat d) (IsEquation d) (IsHandler d) (g.IsGuard d)
@@ -433,9 +453,15 @@ module _ (n d : ℕ) (small : suc d ≤ 200) (E : Reader Tree) (P : Reader Pat) 
       let b1 = of_word (Underscore ▷ (Arrow ▷ Han)) Bar made.0 ts (Word KwEnd ∷ m) made.2 in
       let b2 = of_word (Arrow ▷ Han) Underscore made.0 b1.0 (Word KwEnd ∷ m) b1.2 in
       let b3 = of_word Han Arrow made.0 b2.0 (Word KwEnd ∷ m) b2.2 in
-      let c = handler_sure.finds b3.0 (Word KwEnd ∷ m) made.0 (rest_few n (Word Arrow) b2.0 b3.0 b3.1 (rest_few n (Word Underscore) b1.0 b2.0 b2.1 (rest_few n (Word Bar) ts b1.0 b1.1 few))) tt b3.2 in
-      (other_arm_first ts b1.0 b2.0 b1.1 b2.1, (max h c.0, max_le h c.0 d low c.1, if_yes _ _ _ _ (starts_yes Bar ts b1.0 b1.1)
-        (then_some _ _ _ _ (word_reads Bar ts b1.0 b1.1) (then_some _ _ _ _ (word_reads Underscore b1.0 b2.0 b2.1) (then_some _ _ _ _ (word_reads Arrow b2.0 b3.0 b3.1) (then_some _ _ _ _ c.2 (λ i. Some (xs ++ sym made.1 i ∷ [], max h c.0, Word KwEnd ∷ m))))))))
+      let c = handler_sure.finds b3.0 (Word KwEnd ∷ m) made.0 (rest_few n (Word Arrow) b2.0 b3.0 b3.1 (rest_few n (Word Underscore) b1.0 b2.0 b2.1 (rest_few n (Word Bar) ts b1.0 b1.1 few))) tt b3.2 in (
+        other_arm_first ts b1.0 b2.0 b1.1 b2.1,
+        (
+          max h c.0,
+          max_le h c.0 d low c.1,
+          if_yes _ _ _ _ (starts_yes Bar ts b1.0 b1.1)
+              (then_some _ _ _ _ (word_reads Bar ts b1.0 b1.1) (then_some _ _ _ _ (word_reads Underscore b1.0 b2.0 b2.1) (then_some _ _ _ _ (word_reads Arrow b2.0 b3.0 b3.1) (then_some _ _ _ _ c.2 (λ i. Some (xs ++ sym made.1 i ∷ [], max h c.0, Word KwEnd ∷ m)))))),
+        ),
+      )
 
   abbrev pub MatchTail : Phrase (List (Arm Plain) × Option (Arm Plain))
   MatchTail = separated Bar Arms ⊗ (maybe Other ◁ KwEnd)
@@ -467,10 +493,12 @@ module _ (n d : ℕ) (small : suc d ≤ 200) (E : Reader Tree) (P : Reader Pat) 
       let e = arms_found p.1.0 (r.skip Bar b3.0) b5.0 o0.0 few4 b5.1 in
       let o = other_found p.1.1 p.1.0 e.0 b5.0 m e.1 few5 b6 in
       let k = max c.0 o.1.0 in
-      let high = max_le c.0 o.1.0 d c.1 o.1.1 in
-      (max c.0 o.1.0 + 1, suc_le (max c.0 o.1.0) d high,
+      let high = max_le c.0 o.1.0 d c.1 o.1.1 in (
+        max c.0 o.1.0 + 1,
+        suc_le (max c.0 o.1.0) d high,
         then_some _ _ _ _ (word_reads KwMatch ts b1.0 b1.1) (then_some _ _ _ _ c.2 (then_some _ _ _ _ (word_reads KwWith b2.0 b3.0 b3.1) (then_some _ _ _ _ e.2 (then_some _ _ _ _ o.1.2
-          (then_some _ _ _ _ (word_reads KwEnd (Word KwEnd ∷ m) m refl) (then_some _ _ _ _ (taller_reads (max c.0 o.1.0) d high small) (λ i. Some (sym made.1 i, max c.0 o.1.0 + 1, m)))))))))
+            (then_some _ _ _ _ (word_reads KwEnd (Word KwEnd ∷ m) m refl) (then_some _ _ _ _ (taller_reads (max c.0 o.1.0) d high small) (λ i. Some (sym made.1 i, max c.0 o.1.0 + 1, m)))))))),
+      )
 
   tested_found : (o : Option Pat) (ts k m : List Token) → m ≡ Word Arrow ∷ k → length ts ≤ n → At (maybe (ParenLeft ▷ (IsPat d ◁ ParenRight))) o ts m → (h : ℕ) × (h ≤ d) × (r.tested n E P Q H ts ≡ Some (o, h, m))
   unfolding r.tested
@@ -489,17 +517,19 @@ module _ (n d : ℕ) (small : suc d ≤ 200) (E : Reader Tree) (P : Reader Pat) 
 
   test_sure : Sure (Test Plain) n d (r.test n E P Q H) Tests Any
   unfolding r.test
-  test_sure = record { finds = λ ts m x few follow a.
-      let made = of_made (identifier ⊗ (maybe (ParenLeft ▷ (IsPat d ◁ ParenRight)) ⊗ (Arrow ▷ Han))) (λ p. test_of p.0 p.1.0 p.1.1) x ts m a in
-      let p = made.0 in
-      let b1 = of_both identifier (maybe (ParenLeft ▷ (IsPat d ◁ ParenRight)) ⊗ (Arrow ▷ Han)) p ts m made.2 in
-      let b2 = of_both (maybe (ParenLeft ▷ (IsPat d ◁ ParenRight))) (Arrow ▷ Han) p.1 b1.0 m b1.2 in
-      let b3 = of_word Han Arrow p.1.1 b2.0 m b2.2 in
-      let few1 = le_trans (length b1.0) (length ts) n (not_longer identifier p.0 ts b1.0 b1.1) few in
-      let few2 = le_trans (length b2.0) (length b1.0) n (not_longer (maybe (ParenLeft ▷ (IsPat d ◁ ParenRight))) p.1.0 b1.0 b2.0 b2.1) few1 in
-      let c = tested_found p.1.0 b1.0 b3.0 b2.0 b3.1 few1 b2.1 in
-      let e = handler_sure.finds b3.0 m p.1.1 (rest_few n (Word Arrow) b2.0 b3.0 b3.1 few2) tt b3.2 in
-      (max c.0 e.0, max_le c.0 e.0 d c.1 e.1, then_some _ _ _ _ (name_reads p.0 ts b1.0 b1.1) (then_some _ _ _ _ c.2 (then_some _ _ _ _ (word_reads Arrow b2.0 b3.0 b3.1) (then_some _ _ _ _ e.2 (λ i. Some (sym made.1 i, max c.0 e.0, m)))))) }
+  test_sure = record {
+    finds = λ ts m x few follow a.
+        let made = of_made (identifier ⊗ (maybe (ParenLeft ▷ (IsPat d ◁ ParenRight)) ⊗ (Arrow ▷ Han))) (λ p. test_of p.0 p.1.0 p.1.1) x ts m a in
+        let p = made.0 in
+        let b1 = of_both identifier (maybe (ParenLeft ▷ (IsPat d ◁ ParenRight)) ⊗ (Arrow ▷ Han)) p ts m made.2 in
+        let b2 = of_both (maybe (ParenLeft ▷ (IsPat d ◁ ParenRight))) (Arrow ▷ Han) p.1 b1.0 m b1.2 in
+        let b3 = of_word Han Arrow p.1.1 b2.0 m b2.2 in
+        let few1 = le_trans (length b1.0) (length ts) n (not_longer identifier p.0 ts b1.0 b1.1) few in
+        let few2 = le_trans (length b2.0) (length b1.0) n (not_longer (maybe (ParenLeft ▷ (IsPat d ◁ ParenRight))) p.1.0 b1.0 b2.0 b2.1) few1 in
+        let c = tested_found p.1.0 b1.0 b3.0 b2.0 b3.1 few1 b2.1 in
+        let e = handler_sure.finds b3.0 m p.1.1 (rest_few n (Word Arrow) b2.0 b3.0 b3.1 few2) tt b3.2 in
+        (max c.0 e.0, max_le c.0 e.0 d c.1 e.1, then_some _ _ _ _ (name_reads p.0 ts b1.0 b1.1) (then_some _ _ _ _ c.2 (then_some _ _ _ _ (word_reads Arrow b2.0 b3.0 b3.1) (then_some _ _ _ _ e.2 (λ i. Some (sym made.1 i, max c.0 e.0, m))))));
+  }
 
   test_first : (x : Test Plain) (ts m : List Token) → At Tests x ts m → starts Bar ts ≡ false
   test_first x ts m a =
@@ -540,10 +570,12 @@ module _ (n d : ℕ) (small : suc d ≤ 200) (E : Reader Tree) (P : Reader Pat) 
       let few3 = le_trans (length b3.0) (length (r.skip Bar b1.0)) n (not_longer (separated Bar Tests) p.0 (r.skip Bar b1.0) b3.0 b3.1) few2 in
       let o = otherwise_found p.1 b3.0 m few3 b4 in
       let c = tests_found p.0 (r.skip Bar b1.0) b3.0 o.0 few2 b3.1 in
-      let high = max_le c.0 o.1.0 d c.1 o.1.1 in
-      (max c.0 o.1.0 + 1, suc_le (max c.0 o.1.0) d high,
+      let high = max_le c.0 o.1.0 d c.1 o.1.1 in (
+        max c.0 o.1.0 + 1,
+        suc_le (max c.0 o.1.0) d high,
         then_some _ _ _ _ (word_reads KwPresent ts b1.0 b1.1) (then_some _ _ _ _ c.2 (then_some _ _ _ _ o.1.2 (then_some _ _ _ _ (word_reads KwEnd (Word KwEnd ∷ m) m refl)
-          (then_some _ _ _ _ (taller_reads (max c.0 o.1.0) d high small) (λ i. Some (sym made.1 i, max c.0 o.1.0 + 1, m)))))))
+            (then_some _ _ _ _ (taller_reads (max c.0 o.1.0) d high small) (λ i. Some (sym made.1 i, max c.0 o.1.0 + 1, m)))))),
+      )
 
   guard_found : (D : ℕ) → suc D ≤ d → (b s : Bool) (v w : Fixed) → ((ts m : List Token) → ts ≡ Word v ∷ m → r.either KwUnless KwUntil ts ≡ Some (b, m)) → ((ts m : List Token) → ts ≡ Word w ∷ m → r.either KwThen KwContinue ts ≡ Some (s, m))
       → ((ts m : List Token) → ts ≡ Word w ∷ m → Quiet Expr ts) → (p : Tree × Name) (ts m : List Token) → length ts ≤ n → At (v ▷ (IsExpr D Expr ⊗ (w ▷ constructor))) p ts m
@@ -555,9 +587,11 @@ module _ (n d : ℕ) (small : suc d ≤ 200) (E : Reader Tree) (P : Reader Pat) 
       let b3 = of_word constructor w p.1 b2.0 m b2.2 in
       let low : D ≤ d = omega arith in
       let small2 : suc D ≤ 200 = omega arith in
-      let c = (lower D low).finds b1.0 b2.0 p.0 (rest_few n (Word v) ts b1.0 b1.1 few) (quiet b2.0 b3.0 b3.1) b2.1 in
-      (c.0 + 1, suc_le c.0 D c.1,
-        then_some _ _ _ _ (first ts b1.0 b1.1) (then_some _ _ _ _ c.2 (then_some _ _ _ _ (taller_reads c.0 D c.1 small2) (then_some _ _ _ _ (second b2.0 b3.0 b3.1) (then_some _ _ _ _ (constructor_reads p.1 b3.0 m b3.2) refl)))))
+      let c = (lower D low).finds b1.0 b2.0 p.0 (rest_few n (Word v) ts b1.0 b1.1 few) (quiet b2.0 b3.0 b3.1) b2.1 in (
+        c.0 + 1,
+        suc_le c.0 D c.1,
+        then_some _ _ _ _ (first ts b1.0 b1.1) (then_some _ _ _ _ c.2 (then_some _ _ _ _ (taller_reads c.0 D c.1 small2) (then_some _ _ _ _ (second b2.0 b3.0 b3.1) (then_some _ _ _ _ (constructor_reads p.1 b3.0 m b3.2) refl)))),
+      )
 
   transition_found : (D : ℕ) → D ≤ d → (x : Bool × Guard Plain) (ts m : List Token) → length ts ≤ n → At (g.IsGuard D) x ts m → (h : ℕ) × (h ≤ D) × (r.transition n E P Q H ts ≡ Some (x, h, m))
   transition_found zero le x ts m few a = absurd a.2
@@ -599,10 +633,19 @@ module _ (n d : ℕ) (small : suc d ≤ 200) (E : Reader Tree) (P : Reader Pat) 
       let f = guard_first d x ts m a in
       let l = not_longer (g.IsGuard d) x ts m a in
       elim f.1 [
-        inl is ↦ (ap (λ b. b || starts KwUntil ts) (starts_yes KwUnless ts f.0 is), starts_no KwDone (Word KwUnless) ts f.0 is refl, guard_takes x ts m a,
-            ((quiet_word KwUnless refl refl Expr ts f.0 is, starts_no KwAnd (Word KwUnless) ts f.0 is refl), not_equation KwUnless ts f.0 is refl))
-      | inr is ↦ ((λ i. starts_no KwUnless (Word KwUntil) ts f.0 is refl i || starts_yes KwUntil ts f.0 is i), starts_no KwDone (Word KwUntil) ts f.0 is refl, guard_takes x ts m a,
-            ((quiet_word KwUntil refl refl Expr ts f.0 is, starts_no KwAnd (Word KwUntil) ts f.0 is refl), not_equation KwUntil ts f.0 is refl)) ]
+        | inl is ↦ (
+          ap (λ b. b || starts KwUntil ts) (starts_yes KwUnless ts f.0 is),
+          starts_no KwDone (Word KwUnless) ts f.0 is refl,
+          guard_takes x ts m a,
+          ((quiet_word KwUnless refl refl Expr ts f.0 is, starts_no KwAnd (Word KwUnless) ts f.0 is refl), not_equation KwUnless ts f.0 is refl),
+        )
+        | inr is ↦ (
+          (λ i. starts_no KwUnless (Word KwUntil) ts f.0 is refl i || starts_yes KwUntil ts f.0 is i),
+          starts_no KwDone (Word KwUntil) ts f.0 is refl,
+          guard_takes x ts m a,
+          ((quiet_word KwUntil refl refl Expr ts f.0 is, starts_no KwAnd (Word KwUntil) ts f.0 is refl), not_equation KwUntil ts f.0 is refl),
+        )
+      ]
     where
       nonempty : (D : ℕ) (x : Bool × Guard Plain) (u : List Token) → g.IsGuard D x u → (t : Token) × (l : List Token) × (u ≡ t ∷ l)
       nonempty D x u b =
@@ -665,9 +708,10 @@ module _ (n d : ℕ) (small : suc d ≤ 200) (E : Reader Tree) (P : Reader Pat) 
 
       which : g.exits (g.IsGuard d) gs a.0 → DoEnd ts × ((j : ℕ) × (j ≤ d) × (r.exits n E P Q H ts ≡ Some ((guards_that true gs, guards_that false gs), j, m)))
       which (inl b) =
-          let is : ts ≡ Word KwDone ∷ m = a.1 ∙ ap (λ u. u ++ m) b.1 in
-          (do_end KwDone ts m is (quiet_word KwDone refl refl Expr ts m is, starts_no KwAnd (Word KwDone) ts m is refl) refl,
-            (0, low, if_yes _ _ _ _ (starts_yes KwDone ts m is) (then_some _ _ _ _ (word_reads KwDone ts m is) (λ i. Some ((guards_that true (sym b.0 i), guards_that false (sym b.0 i)), 0, m)))))
+          let is : ts ≡ Word KwDone ∷ m = a.1 ∙ ap (λ u. u ++ m) b.1 in (
+            do_end KwDone ts m is (quiet_word KwDone refl refl Expr ts m is, starts_no KwAnd (Word KwDone) ts m is refl) refl,
+            (0, low, if_yes _ _ _ _ (starts_yes KwDone ts m is) (then_some _ _ _ _ (word_reads KwDone ts m is) (λ i. Some ((guards_that true (sym b.0 i), guards_that false (sym b.0 i)), 0, m)))),
+          )
       which (inr (inl b)) =
           let f = guards_found gs ts m end.0 few (a.0, a.1, b) in
           (f.2, (f.3.0, f.3.1, if_no _ _ _ _ f.1 (if_yes _ _ _ _ f.0 (then_some _ _ _ _ f.3.2 (λ i. Some ((guards_that true gs, guards_that false gs), f.3.0, unskipped KwDone m end.1 i))))))
@@ -682,18 +726,20 @@ module _ (n d : ℕ) (small : suc d ≤ 200) (E : Reader Tree) (P : Reader Pat) 
 
   state_sure : Sure (State Plain) n d (r.state n E P Q H) States StateEnd
   unfolding r.state
-  state_sure = record { finds = λ ts m x few end a.
-      let made = of_made (constructor ⊗ (Arrow ▷ (IsHandler d ⊗ g.exits (g.IsGuard d)))) (λ p. state_of p.0 p.1.0 p.1.1) x ts m a in
-      let p = made.0 in
-      let b1 = of_both constructor (Arrow ▷ (IsHandler d ⊗ g.exits (g.IsGuard d))) p ts m made.2 in
-      let b2 = of_word (IsHandler d ⊗ g.exits (g.IsGuard d)) Arrow p.1 b1.0 m b1.2 in
-      let b3 = of_both (IsHandler d) (g.exits (g.IsGuard d)) p.1 b2.0 m b2.2 in
-      let few1 = le_trans (length b1.0) (length ts) n (not_longer constructor p.0 ts b1.0 b1.1) few in
-      let few2 = rest_few n (Word Arrow) b1.0 b2.0 b2.1 few1 in
-      let few3 = le_trans (length b3.0) (length b2.0) n (not_longer (IsHandler d) p.1.0 b2.0 b3.0 b3.1) few2 in
-      let e = exits_found p.1.1 b3.0 m end few3 b3.2 in
-      let c = sh.finds b2.0 b3.0 p.1.0 few2 e.0 b3.1 in
-      (max c.0 e.1.0, max_le c.0 e.1.0 d c.1 e.1.1, then_some _ _ _ _ (constructor_reads p.0 ts b1.0 b1.1) (then_some _ _ _ _ (word_reads Arrow b1.0 b2.0 b2.1) (then_some _ _ _ _ c.2 (then_some _ _ _ _ e.1.2 (λ i. Some (sym made.1 i, max c.0 e.1.0, m)))))) }
+  state_sure = record {
+    finds = λ ts m x few end a.
+        let made = of_made (constructor ⊗ (Arrow ▷ (IsHandler d ⊗ g.exits (g.IsGuard d)))) (λ p. state_of p.0 p.1.0 p.1.1) x ts m a in
+        let p = made.0 in
+        let b1 = of_both constructor (Arrow ▷ (IsHandler d ⊗ g.exits (g.IsGuard d))) p ts m made.2 in
+        let b2 = of_word (IsHandler d ⊗ g.exits (g.IsGuard d)) Arrow p.1 b1.0 m b1.2 in
+        let b3 = of_both (IsHandler d) (g.exits (g.IsGuard d)) p.1 b2.0 m b2.2 in
+        let few1 = le_trans (length b1.0) (length ts) n (not_longer constructor p.0 ts b1.0 b1.1) few in
+        let few2 = rest_few n (Word Arrow) b1.0 b2.0 b2.1 few1 in
+        let few3 = le_trans (length b3.0) (length b2.0) n (not_longer (IsHandler d) p.1.0 b2.0 b3.0 b3.1) few2 in
+        let e = exits_found p.1.1 b3.0 m end few3 b3.2 in
+        let c = sh.finds b2.0 b3.0 p.1.0 few2 e.0 b3.1 in
+        (max c.0 e.1.0, max_le c.0 e.1.0 d c.1 e.1.1, then_some _ _ _ _ (constructor_reads p.0 ts b1.0 b1.1) (then_some _ _ _ _ (word_reads Arrow b1.0 b2.0 b2.1) (then_some _ _ _ _ c.2 (then_some _ _ _ _ e.1.2 (λ i. Some (sym made.1 i, max c.0 e.1.0, m))))));
+  }
 
   state_first : (x : State Plain) (ts m : List Token) → At States x ts m → starts Bar ts ≡ false
   state_first x ts m a =
@@ -716,7 +762,7 @@ module _ (n d : ℕ) (small : suc d ≤ 200) (E : Reader Tree) (P : Reader Pat) 
       let few1 = rest_few n (Word KwAutomaton) ts b1.0 b1.1 few in
       let few2 = le_trans (length (r.skip Bar b1.0)) (length b1.0) n (skip_short Bar b1.0) few1 in
       let c = separated_found n d (starts Bar) Bar (r.state n E P Q H) States StateEnd state_sure (λ x ts m a. let b = of_word States Bar x ts m a in starts_yes Bar ts b.0 b.1) (λ ts m is. state_end Bar refl refl refl ts m is)
-          p (r.skip Bar b1.0) (Word KwEnd ∷ m) (starts_no Bar (Word KwEnd) (Word KwEnd ∷ m) m refl refl) (state_end KwEnd refl refl refl (Word KwEnd ∷ m) m refl) few2 b3 in
+      p (r.skip Bar b1.0) (Word KwEnd ∷ m) (starts_no Bar (Word KwEnd) (Word KwEnd ∷ m) m refl refl) (state_end KwEnd refl refl refl (Word KwEnd ∷ m) m refl) few2 b3 in
       (c.0 + 1, suc_le c.0 d c.1, then_some _ _ _ _ (word_reads KwAutomaton ts b1.0 b1.1) (then_some _ _ _ _ c.2 (then_some _ _ _ _ (word_reads KwEnd (Word KwEnd ∷ m) m refl) (then_some _ _ _ _ (taller_reads c.0 d c.1 small) (λ i. Some (sym made.1 i, c.0 + 1, m))))))
 
   off : (b s : Bool) → s ≡ false → (not b && s) ≡ false
@@ -752,8 +798,12 @@ module _ (n d : ℕ) (small : suc d ≤ 200) (E : Reader Tree) (P : Reader Pat) 
       last u = off b (starts KwLast ts) u.1
 
       plain : (t : Token) (l : List Token) → ts ≡ t ∷ l → (Unnamed ts × (is_word KwEmit t ≡ false) × (is_word KwReset t ≡ false) × (is_word KwMatch t ≡ false) × (is_word KwPresent t ≡ false) × (is_word KwAutomaton t ≡ false)) → EqFound (Equation Plain) (r.plain_equation n E P Q H) x ts m → EqFound (Equation Plain) (r.equation n E P Q H b) x ts m
-      plain t l is u f = (f.0, f.1, if_no _ _ _ _ (clock u.0) (if_no _ _ _ _ (last u.0) (if_no _ _ _ _ (starts_no KwEmit t ts l is u.1) (if_no _ _ _ _ (starts_no KwReset t ts l is u.2) (if_no _ _ _ _ (starts_no KwMatch t ts l is u.3)
-          (if_no _ _ _ _ (starts_no KwPresent t ts l is u.4) (if_no _ _ _ _ (starts_no KwAutomaton t ts l is u.5) f.2)))))))
+      plain t l is u f = (
+        f.0,
+        f.1,
+        if_no _ _ _ _ (clock u.0) (if_no _ _ _ _ (last u.0) (if_no _ _ _ _ (starts_no KwEmit t ts l is u.1) (if_no _ _ _ _ (starts_no KwReset t ts l is u.2) (if_no _ _ _ _ (starts_no KwMatch t ts l is u.3)
+            (if_no _ _ _ _ (starts_no KwPresent t ts l is u.4) (if_no _ _ _ _ (starts_no KwAutomaton t ts l is u.5) f.2)))))),
+      )
 
       which : g.inner Ex (IsPat d) (IsEquation d) (IsHandler d) (g.IsGuard d) b x a.0 → EqFound (Equation Plain) (r.equation n E P Q H b) x ts m
       which (inl c) =
@@ -763,10 +813,12 @@ module _ (n d : ℕ) (small : suc d ≤ 200) (E : Reader Tree) (P : Reader Pat) 
           let f = pat_head d made.0.0 ts b1.0 b1.1 in
           let found = plain_found x ts m quiet few at in
           elim f.3 [
-            inl p ↦ let is = f.2 ∙ ap (λ t. t ∷ f.1) p.1 in plain (Id p.0) f.1 is (word_unnamed (Id p.0) ts f.1 is refl refl, refl, refl, refl, refl, refl) found
-          | inr q ↦ elim q [
-              inl e ↦ let is = f.2 ∙ ap (λ t. t ∷ f.1) e in plain (Word Underscore) f.1 is (word_unnamed (Word Underscore) ts f.1 is refl refl, refl, refl, refl, refl, refl) found
-            | inr e ↦ let is = f.2 ∙ ap (λ t. t ∷ f.1) e in plain (Word ParenLeft) f.1 is (word_unnamed (Word ParenLeft) ts f.1 is refl refl, refl, refl, refl, refl, refl) found ] ]
+            | inl p ↦ let is = f.2 ∙ ap (λ t. t ∷ f.1) p.1 in plain (Id p.0) f.1 is (word_unnamed (Id p.0) ts f.1 is refl refl, refl, refl, refl, refl, refl) found
+            | inr q ↦ elim q [
+              | inl e ↦ let is = f.2 ∙ ap (λ t. t ∷ f.1) e in plain (Word Underscore) f.1 is (word_unnamed (Word Underscore) ts f.1 is refl refl, refl, refl, refl, refl, refl) found
+              | inr e ↦ let is = f.2 ∙ ap (λ t. t ∷ f.1) e in plain (Word ParenLeft) f.1 is (word_unnamed (Word ParenLeft) ts f.1 is refl refl, refl, refl, refl, refl, refl) found
+            ]
+          ]
       which (inr (inl c)) =
           let f = named_found KwEmit eq.Emit x ts m quiet few (a.0, a.1, c) in
           let u = word_unnamed (Word KwEmit) ts f.0 f.1 refl refl in
@@ -789,9 +841,12 @@ module _ (n d : ℕ) (small : suc d ≤ 200) (E : Reader Tree) (P : Reader Pat) 
       which (inr (inr (inr (inr (inr c))))) =
           let w = of_word (after Bar (separated Bar States ◁ KwEnd)) KwAutomaton c.0 ts m (a.0, a.1, c.2) in
           let f = automaton_found x ts m few (a.0, a.1, c) in
-          let u = word_unnamed (Word KwAutomaton) ts w.0 w.1 refl refl in
-          (f.0, f.1, if_no _ _ _ _ (clock u) (if_no _ _ _ _ (last u) (if_no _ _ _ _ (starts_no KwEmit (Word KwAutomaton) ts w.0 w.1 refl) (if_no _ _ _ _ (starts_no KwReset (Word KwAutomaton) ts w.0 w.1 refl) (if_no _ _ _ _ (starts_no KwMatch (Word KwAutomaton) ts w.0 w.1 refl)
-              (if_no _ _ _ _ (starts_no KwPresent (Word KwAutomaton) ts w.0 w.1 refl) (if_yes _ _ _ _ (starts_yes KwAutomaton ts w.0 w.1) f.2)))))))
+          let u = word_unnamed (Word KwAutomaton) ts w.0 w.1 refl refl in (
+            f.0,
+            f.1,
+            if_no _ _ _ _ (clock u) (if_no _ _ _ _ (last u) (if_no _ _ _ _ (starts_no KwEmit (Word KwAutomaton) ts w.0 w.1 refl) (if_no _ _ _ _ (starts_no KwReset (Word KwAutomaton) ts w.0 w.1 refl) (if_no _ _ _ _ (starts_no KwMatch (Word KwAutomaton) ts w.0 w.1 refl)
+                (if_no _ _ _ _ (starts_no KwPresent (Word KwAutomaton) ts w.0 w.1 refl) (if_yes _ _ _ _ (starts_yes KwAutomaton ts w.0 w.1) f.2)))))),
+          )
 
   equation_found : (b : Bool) (x : Equation Plain) (ts m : List Token) → Quiet Expr m → length ts ≤ n → At (g.equation Ex (IsPat d) (IsEquation d) (IsHandler d) (g.IsGuard d) b) x ts m → EqFound (Equation Plain) (r.equation n E P Q H b) x ts m
   unfolding r.equation
@@ -863,6 +918,7 @@ sure_both_kinds n (suc f) (suc D) le small =
     let s = sure_both_kinds n f D under low in
     let e = sure_expression n f D under low Expr in
     let p = sure_pattern n f D under low in
-    let l : (C : ℕ) → C ≤ D → Sure Tree n C (expression n f Expr) (IsExpr C Expr) (Quiet Expr) = λ C c. sure_expression n f C (le_trans C D f c under) (le_trans C D 200 c low) Expr in
-    ((λ b. record { finds = λ ts m x few q a. equation_found n D small (expression n f Expr) (rp.pattern n f) (r.equation_at n f) (r.doing_at n f) e p s.0 s.1 l b x ts m q few a }),
-     record { finds = λ ts m x few q a. doing_found n D small (expression n f Expr) (rp.pattern n f) (r.equation_at n f) (r.doing_at n f) e p s.0 s.1 l x ts m q few a })
+    let l : (C : ℕ) → C ≤ D → Sure Tree n C (expression n f Expr) (IsExpr C Expr) (Quiet Expr) = λ C c. sure_expression n f C (le_trans C D f c under) (le_trans C D 200 c low) Expr in (
+      (λ b. record { finds = λ ts m x few q a. equation_found n D small (expression n f Expr) (rp.pattern n f) (r.equation_at n f) (r.doing_at n f) e p s.0 s.1 l b x ts m q few a }),
+      record { finds = λ ts m x few q a. doing_found n D small (expression n f Expr) (rp.pattern n f) (r.equation_at n f) (r.doing_at n f) e p s.0 s.1 l x ts m q few a },
+    )

@@ -1,5 +1,5 @@
 -- Each expression is read.
-use Rattle.std.proofs.Common.{◌≡◌, ℕ, zero, suc, ◌+◌, ◌-◌, ◌<◌, ◌≤◌, ◌⊎◌, inl, inr, Bool, true, false, List, [], ◌∷◌, ◌++◌, Option, Some, None, max, length, length-append, refl, sym, ◌∙◌, ap, subst, arith, append_assoc, if◌then◌else◌, option_and_then, unwrap_or}
+use Rattle.std.proofs.Common.{◌≡◌, ℕ, zero, suc, ◌+◌, ◌<◌, ◌≤◌, ◌⊎◌, inl, inr, Bool, true, false, List, [], ◌∷◌, ◌++◌, Option, Some, None, max, length, length-append, refl, sym, ◌∙◌, ap, subst, arith, if◌then◌else◌, unwrap_or}
 use Rattle.std.specs.Prelude.{nat_lt, nat_eq, not, ◌&&◌}
 use Rattle.std.specs.Option.{option_map}
 use Rattle.std.proofs.lemmas.Bool.{eq-eqb, lt-ltb, le-ltb}
@@ -21,13 +21,13 @@ use Rattle.ls_parser.specs.declared.level.Infix.{Infix}
 use Rattle.ls_parser.specs.declared.level.Infix.TheVariants as between
 use Rattle.ls_parser.specs.Levels.{rank, left, right, infix_of, level_of}
 use Rattle.ls_parser.specs.Making.{Tree, node, constant, chosen, unary, binary, previous, applied, called, merged, operands, simple, truth}
-use Rattle.ls_parser.specs.Notation.{Phrase, ◌▷◌, ◌◁◌, ◌⊗◌, ◌⇒◌, ◌or◌, many, some, identifier, constructor}
+use Rattle.ls_parser.specs.Notation.{Phrase, ◌▷◌, ◌◁◌, ◌⊗◌, ◌⇒◌, many, some, identifier, constructor}
 use Rattle.ls_parser.specs.Grammar as g
 use Rattle.ls_parser.specs.Grammar.{IsExpr}
-use Rattle.ls_parser.specs.Reading.{Reader, ◌>>=◌, uncons, is_word, starts, word, name, constructor as constructor_read, taller, behind, both, form_of, collect}
+use Rattle.ls_parser.specs.Reading.{Reader, ◌>>=◌, uncons, is_word, starts, word, name, constructor as constructor_read, taller, behind, form_of, collect}
 use Rattle.ls_parser.specs.Expressions as r
-use Rattle.ls_parser.proofs.Front.{At, Got, append_nil, true_false, some_of, branch_of, some_one, none_some, word_one, le_refl, le_trans}
-use Rattle.ls_parser.proofs.Parts.{of_word, of_end, of_both, of_made, of_none, of_more, not_longer, one_longer, then_some, if_yes, if_no, itself, word_reads, starts_yes, starts_no, name_reads, constructor_reads, taller_reads, max_le, suc_le, Sure, sure_behind, sure_both, sure_form, row_found, row_short}
+use Rattle.ls_parser.proofs.Front.{At, Got, true_false, some_of, some_one, none_some, word_one, le_refl, le_trans}
+use Rattle.ls_parser.proofs.Parts.{of_word, of_end, of_both, of_made, of_more, not_longer, one_longer, then_some, if_yes, if_no, itself, word_reads, starts_yes, starts_no, name_reads, constructor_reads, taller_reads, max_le, suc_le, Sure, sure_behind, sure_both, sure_form, row_found, row_short}
 use Rattle.ls_parser.proofs.SoundExpr.{infix_first, between_at}
 
 -- no operator goes on from a phrase of a level, and no atom begins
@@ -180,8 +180,8 @@ module _ (n d : ℕ) (small : suc d ≤ 200) (R : Level → Reader Tree) (ih : (
   unfolding r.conditional
   conditional_found ts m x few quiet a =
       (sure_form chosen small (sure_behind KwIf (sure_both (ih Expr) (sure_behind KwThen (sure_both (ih Expr) (sure_behind KwElse (ih Expr))
-        (λ x ts m a. let b = of_word (IsExpr d Expr) KwElse x ts m a in quiet_word KwElse refl refl Expr ts b.0 b.1)))
-        (λ x ts m a. let b = of_word (IsExpr d Expr ⊗ (KwElse ▷ IsExpr d Expr)) KwThen x ts m a in quiet_word KwThen refl refl Expr ts b.0 b.1)))).finds ts m x few quiet a
+      (λ x ts m a. let b = of_word (IsExpr d Expr) KwElse x ts m a in quiet_word KwElse refl refl Expr ts b.0 b.1)))
+      (λ x ts m a. let b = of_word (IsExpr d Expr ⊗ (KwElse ▷ IsExpr d Expr)) KwThen x ts m a in quiet_word KwThen refl refl Expr ts b.0 b.1)))).finds ts m x few quiet a
 
   pub arguments_found : (limit : ℕ) (xs : List Tree) (ts m : List Token) → length xs ≤ limit → (length xs ≡ limit) ⊎ (r.begins_atom m ≡ false) → length ts ≤ n → At (many (IsExpr d Atom)) xs ts m
       → (h : ℕ) × (h ≤ d) × (r.arguments n R limit ts ≡ Some (xs, h, m))
@@ -203,13 +203,17 @@ module _ (n d : ℕ) (small : suc d ≤ 200) (R : Level → Reader Tree) (ih : (
   plain_call f xs ts m closed few a =
       let b = of_both identifier (many (IsExpr d Atom)) (f, xs) ts m a in
       let first : ts ≡ Id f ∷ b.0 = b.1.1 ∙ ap (λ u. u ++ b.0) b.1.2 in
-      let c = arguments_all xs b.0 m closed (rest_few n (Id f) ts b.0 first few) b.2 in
-      (c.0, c.1,
+      let c = arguments_all xs b.0 m closed (rest_few n (Id f) ts b.0 first few) b.2 in (
+        c.0,
+        c.1,
         if_no (starts KwRun ts) (word KwRun ts >>= λ m. name m >>= λ p. r.arguments n R n p.1 >>= λ x. Some ((true, (p.0, x.0)), x.1, x.2)) (name ts >>= λ p. r.arguments n R n p.1 >>= λ x. Some ((false, (p.0, x.0)), x.1, x.2)) (Some ((false, (f, xs)), c.0, m))
-          (starts_no KwRun (Id f) ts b.0 first refl)
-          (then_some (λ p. r.arguments n R n p.1 >>= λ x. Some ((false, (p.0, x.0)), x.1, x.2)) (name ts) (f, b.0) (Some ((false, (f, xs)), c.0, m)) (name_reads f ts b.0 b.1)
+            (starts_no KwRun (Id f) ts b.0 first refl)
+            (then_some (λ p. r.arguments n R n p.1 >>= λ x. Some ((false, (p.0, x.0)), x.1, x.2)) (name ts) (f, b.0) (Some ((false, (f, xs)), c.0, m)) (name_reads f ts b.0 b.1)
             (then_some (λ x. Some ((false, (f, x.0)), x.1, x.2)) (r.arguments n R n b.0) (xs, c.0, m) (Some ((false, (f, xs)), c.0, m)) c.2 refl)),
-        ap r.begins_call first, b.0, first)
+        ap r.begins_call first,
+        b.0,
+        first,
+      )
 
   run_call : (f : Name) (xs : List Tree) (ts m : List Token) → r.begins_atom m ≡ false → length ts ≤ n → At (KwRun ▷ (identifier ⊗ many (IsExpr d Atom))) (f, xs) ts m
       → (h : ℕ) × (h ≤ d) × (r.call n R ts ≡ Some ((true, (f, xs)), h, m)) × (r.begins_call ts ≡ true) × (l : List Token) × (ts ≡ Word KwRun ∷ l)
@@ -218,14 +222,18 @@ module _ (n d : ℕ) (small : suc d ≤ 200) (R : Level → Reader Tree) (ih : (
       let w = of_word (identifier ⊗ many (IsExpr d Atom)) KwRun (f, xs) ts m a in
       let b = of_both identifier (many (IsExpr d Atom)) (f, xs) w.0 m w.2 in
       let first : w.0 ≡ Id f ∷ b.0 = b.1.1 ∙ ap (λ u. u ++ b.0) b.1.2 in
-      let c = arguments_all xs b.0 m closed (rest_few n (Id f) w.0 b.0 first (rest_few n (Word KwRun) ts w.0 w.1 few)) b.2 in
-      (c.0, c.1,
+      let c = arguments_all xs b.0 m closed (rest_few n (Id f) w.0 b.0 first (rest_few n (Word KwRun) ts w.0 w.1 few)) b.2 in (
+        c.0,
+        c.1,
         if_yes (starts KwRun ts) (word KwRun ts >>= λ m. name m >>= λ p. r.arguments n R n p.1 >>= λ x. Some ((true, (p.0, x.0)), x.1, x.2)) (name ts >>= λ p. r.arguments n R n p.1 >>= λ x. Some ((false, (p.0, x.0)), x.1, x.2)) (Some ((true, (f, xs)), c.0, m))
-          (starts_yes KwRun ts w.0 w.1)
-          (then_some (λ m. name m >>= λ p. r.arguments n R n p.1 >>= λ x. Some ((true, (p.0, x.0)), x.1, x.2)) (word KwRun ts) w.0 (Some ((true, (f, xs)), c.0, m)) (word_reads KwRun ts w.0 w.1)
+            (starts_yes KwRun ts w.0 w.1)
+            (then_some (λ m. name m >>= λ p. r.arguments n R n p.1 >>= λ x. Some ((true, (p.0, x.0)), x.1, x.2)) (word KwRun ts) w.0 (Some ((true, (f, xs)), c.0, m)) (word_reads KwRun ts w.0 w.1)
             (then_some (λ p. r.arguments n R n p.1 >>= λ x. Some ((true, (p.0, x.0)), x.1, x.2)) (name w.0) (f, b.0) (Some ((true, (f, xs)), c.0, m)) (name_reads f w.0 b.0 b.1)
-              (then_some (λ x. Some ((true, (f, x.0)), x.1, x.2)) (r.arguments n R n b.0) (xs, c.0, m) (Some ((true, (f, xs)), c.0, m)) c.2 refl))),
-        ap r.begins_call w.1 ∙ itself KwRun, w.0, w.1)
+            (then_some (λ x. Some ((true, (f, x.0)), x.1, x.2)) (r.arguments n R n b.0) (xs, c.0, m) (Some ((true, (f, xs)), c.0, m)) c.2 refl))),
+        ap r.begins_call w.1 ∙ itself KwRun,
+        w.0,
+        w.1,
+      )
 
   -- a name that is applied to at least one atom
   abbrev pub CallFound : Bool × (Name × List Tree) → List Token → List Token → Type 0
@@ -256,11 +264,13 @@ module _ (n d : ℕ) (small : suc d ≤ 200) (R : Level → Reader Tree) (ih : (
 
   named_found : (c : Bool × (Name × List Tree)) (ts m : List Token) → CallFound c ts m → Found (r.named n R) (called None c) ts m
   unfolding r.named
-  named_found c ts m f =
-      (f.0 + 1, suc_le f.0 d f.1,
-        then_some (λ x. applied x.0.0 x.0.1.0 x.0.1.1 >>= λ e. taller x.1 >>= λ h. Some (e, h, x.2)) (r.call n R ts) (c, f.0, m) (Some (called None c, f.0 + 1, m)) f.2
-          (then_some (λ e. taller f.0 >>= λ h. Some (e, h, m)) (applied c.0 c.1.0 c.1.1) (called None c) (Some (called None c, f.0 + 1, m)) (applied_some c.0 c.1.0 c.1.1 f.4 f.5 f.6)
-            (then_some (λ h. Some (called None c, h, m)) (taller f.0) (f.0 + 1) (Some (called None c, f.0 + 1, m)) (taller_reads f.0 d f.1 small) refl)))
+  named_found c ts m f = (
+    f.0 + 1,
+    suc_le f.0 d f.1,
+    then_some (λ x. applied x.0.0 x.0.1.0 x.0.1.1 >>= λ e. taller x.1 >>= λ h. Some (e, h, x.2)) (r.call n R ts) (c, f.0, m) (Some (called None c, f.0 + 1, m)) f.2
+        (then_some (λ e. taller f.0 >>= λ h. Some (e, h, m)) (applied c.0 c.1.0 c.1.1) (called None c) (Some (called None c, f.0 + 1, m)) (applied_some c.0 c.1.0 c.1.1 f.4 f.5 f.6)
+        (then_some (λ h. Some (called None c, h, m)) (taller f.0) (f.0 + 1) (Some (called None c, f.0 + 1, m)) (taller_reads f.0 d f.1 small) refl)),
+  )
 
   call_application : (ts : List Token) → r.begins_call ts ≡ true → r.application n R ts ≡ r.named n R ts
   unfolding r.begins_call r.application
@@ -282,32 +292,39 @@ module _ (n d : ℕ) (small : suc d ≤ 200) (R : Level → Reader Tree) (ih : (
       let l = a.2.2 ++ m in
       let first : ts ≡ Prefix o ∷ l = a.1 ∙ ap (λ u. u ++ m) a.2.3 in
       let le : length xs ≤ operands o = subst (λ k. length xs ≤ k) a.2.4 (le_refl (length xs)) in
-      let c = arguments_found (operands o) xs l m le (inl a.2.4) (rest_few n (Prefix o) ts l first few) (a.2.2, refl, a.2.5) in
-      (c.0 + 1, suc_le c.0 d c.1, ap (r.application n R) first
-        ∙ then_some (λ x. if nat_eq (length x.0) (operands o) then (taller x.1 >>= λ h. Some (node (form.Op o x.0), h, x.2)) else None) (r.arguments n R (operands o) l) (xs, c.0, m) (Some (x, c.0 + 1, m)) c.2
+      let c = arguments_found (operands o) xs l m le (inl a.2.4) (rest_few n (Prefix o) ts l first few) (a.2.2, refl, a.2.5) in (
+        c.0 + 1,
+        suc_le c.0 d c.1,
+        ap (r.application n R) first
+            ∙ then_some (λ x. if nat_eq (length x.0) (operands o) then (taller x.1 >>= λ h. Some (node (form.Op o x.0), h, x.2)) else None) (r.arguments n R (operands o) l) (xs, c.0, m) (Some (x, c.0 + 1, m)) c.2
             (if_yes (nat_eq (length xs) (operands o)) (taller c.0 >>= λ h. Some (node (form.Op o xs), h, m)) None (Some (x, c.0 + 1, m)) (eq-eqb (length xs) (operands o) a.2.4)
-              (then_some (λ h. Some (node (form.Op o xs), h, m)) (taller c.0) (c.0 + 1) (Some (x, c.0 + 1, m)) (taller_reads c.0 d c.1 small) (λ i. Some (sym a.2.6 i, c.0 + 1, m)))))
+            (then_some (λ h. Some (node (form.Op o xs), h, m)) (taller c.0) (c.0 + 1) (Some (x, c.0 + 1, m)) (taller_reads c.0 d c.1 small) (λ i. Some (sym a.2.6 i, c.0 + 1, m)))),
+      )
 
   -- branches of a merge
   branch_sure : Sure (Case × Tree) n d (r.branch n R) (g.branch (IsExpr d)) (λ m. Unit {0})
   unfolding r.branch
-  branch_sure = record { finds = λ ts m x few follow a.
-      let made = of_made (ParenLeft ▷ (constructor ⊗ (Arrow ▷ (IsExpr d Expr ◁ ParenRight)))) (λ p. (case.Of p.0, p.1)) x ts m a in
-      let p = made.0 in
-      let b1 = of_word (constructor ⊗ (Arrow ▷ (IsExpr d Expr ◁ ParenRight))) ParenLeft p ts m made.2 in
-      let b2 = of_both constructor (Arrow ▷ (IsExpr d Expr ◁ ParenRight)) p b1.0 m b1.2 in
-      let b3 = of_word (IsExpr d Expr ◁ ParenRight) Arrow p.1 b2.0 m b2.2 in
-      let b4 = of_end (IsExpr d Expr) ParenRight p.1 b3.0 m b3.2 in
-      let few1 = rest_few n (Word ParenLeft) ts b1.0 b1.1 few in
-      let few2 = le_trans (length b2.0) (length b1.0) n (not_longer constructor p.0 b1.0 b2.0 b2.1) few1 in
-      let few3 = rest_few n (Word Arrow) b2.0 b3.0 b3.1 few2 in
-      let e = (ih Expr).finds b3.0 (Word ParenRight ∷ m) p.1 few3 (quiet_word ParenRight refl refl Expr (Word ParenRight ∷ m) m refl) b4 in
-      (e.0, e.1,
-        then_some (λ m. constructor_read m >>= λ p. word Arrow p.1 >>= λ m. R Expr m >>= λ x. word ParenRight x.2 >>= λ m. Some ((case.Of p.0, x.0), x.1, m)) (word ParenLeft ts) b1.0 (Some (x, e.0, m)) (word_reads ParenLeft ts b1.0 b1.1)
-          (then_some (λ p. word Arrow p.1 >>= λ m. R Expr m >>= λ x. word ParenRight x.2 >>= λ m. Some ((case.Of p.0, x.0), x.1, m)) (constructor_read b1.0) (p.0, b2.0) (Some (x, e.0, m)) (constructor_reads p.0 b1.0 b2.0 b2.1)
-            (then_some (λ m. R Expr m >>= λ x. word ParenRight x.2 >>= λ m. Some ((case.Of p.0, x.0), x.1, m)) (word Arrow b2.0) b3.0 (Some (x, e.0, m)) (word_reads Arrow b2.0 b3.0 b3.1)
+  branch_sure = record {
+    finds = λ ts m x few follow a.
+        let made = of_made (ParenLeft ▷ (constructor ⊗ (Arrow ▷ (IsExpr d Expr ◁ ParenRight)))) (λ p. (case.Of p.0, p.1)) x ts m a in
+        let p = made.0 in
+        let b1 = of_word (constructor ⊗ (Arrow ▷ (IsExpr d Expr ◁ ParenRight))) ParenLeft p ts m made.2 in
+        let b2 = of_both constructor (Arrow ▷ (IsExpr d Expr ◁ ParenRight)) p b1.0 m b1.2 in
+        let b3 = of_word (IsExpr d Expr ◁ ParenRight) Arrow p.1 b2.0 m b2.2 in
+        let b4 = of_end (IsExpr d Expr) ParenRight p.1 b3.0 m b3.2 in
+        let few1 = rest_few n (Word ParenLeft) ts b1.0 b1.1 few in
+        let few2 = le_trans (length b2.0) (length b1.0) n (not_longer constructor p.0 b1.0 b2.0 b2.1) few1 in
+        let few3 = rest_few n (Word Arrow) b2.0 b3.0 b3.1 few2 in
+        let e = (ih Expr).finds b3.0 (Word ParenRight ∷ m) p.1 few3 (quiet_word ParenRight refl refl Expr (Word ParenRight ∷ m) m refl) b4 in (
+          e.0,
+          e.1,
+          then_some (λ m. constructor_read m >>= λ p. word Arrow p.1 >>= λ m. R Expr m >>= λ x. word ParenRight x.2 >>= λ m. Some ((case.Of p.0, x.0), x.1, m)) (word ParenLeft ts) b1.0 (Some (x, e.0, m)) (word_reads ParenLeft ts b1.0 b1.1)
+              (then_some (λ p. word Arrow p.1 >>= λ m. R Expr m >>= λ x. word ParenRight x.2 >>= λ m. Some ((case.Of p.0, x.0), x.1, m)) (constructor_read b1.0) (p.0, b2.0) (Some (x, e.0, m)) (constructor_reads p.0 b1.0 b2.0 b2.1)
+              (then_some (λ m. R Expr m >>= λ x. word ParenRight x.2 >>= λ m. Some ((case.Of p.0, x.0), x.1, m)) (word Arrow b2.0) b3.0 (Some (x, e.0, m)) (word_reads Arrow b2.0 b3.0 b3.1)
               (then_some (λ x. word ParenRight x.2 >>= λ m. Some ((case.Of p.0, x.0), x.1, m)) (R Expr b3.0) (p.1, e.0, Word ParenRight ∷ m) (Some (x, e.0, m)) e.2
-                (then_some (λ m. Some ((case.Of p.0, p.1), e.0, m)) (word ParenRight (Word ParenRight ∷ m)) m (Some (x, e.0, m)) (word_reads ParenRight (Word ParenRight ∷ m) m refl) (λ i. Some (sym made.1 i, e.0, m))))))) }
+              (then_some (λ m. Some ((case.Of p.0, p.1), e.0, m)) (word ParenRight (Word ParenRight ∷ m)) m (Some (x, e.0, m)) (word_reads ParenRight (Word ParenRight ∷ m) m refl) (λ i. Some (sym made.1 i, e.0, m)))))),
+        );
+  }
 
   branch_begins : (x : Case × Tree) (ts m : List Token) → At (g.branch (IsExpr d)) x ts m → r.begins_branch ts ≡ true
   unfolding r.begins_branch starts
@@ -365,13 +382,16 @@ module _ (n d : ℕ) (small : suc d ≤ 200) (R : Level → Reader Tree) (ih : (
       let b2 = of_both identifier (some (g.branch (IsExpr d))) p b1.0 m b1.2 in
       let few1 = rest_few n (Word KwMerge) ts b1.0 b1.1 few in
       let few2 = le_trans (length b2.0) (length b1.0) n (not_longer identifier p.0 b1.0 b2.0 b2.1) few1 in
-      let c = branches_found p.1 b2.0 m closed few2 b2.2 in
-      (c.1.0 + 1, suc_le c.1.0 d c.1.1, ap (r.application n R) b1.1
-        ∙ then_some (λ p. r.merge n R p.0 p.1) (name b1.0) (p.0, b2.0) (Some (x, c.1.0 + 1, m)) (name_reads p.0 b1.0 b2.0 b2.1)
+      let c = branches_found p.1 b2.0 m closed few2 b2.2 in (
+        c.1.0 + 1,
+        suc_le c.1.0 d c.1.1,
+        ap (r.application n R) b1.1
+            ∙ then_some (λ p. r.merge n R p.0 p.1) (name b1.0) (p.0, b2.0) (Some (x, c.1.0 + 1, m)) (name_reads p.0 b1.0 b2.0 b2.1)
             (if_yes (r.begins_branch b2.0) (r.branches n R b2.0 >>= λ bs. taller bs.1 >>= λ h. Some (node (form.Merge p.0 bs.0), h, bs.2))
-              (R Atom b2.0 >>= λ a. if r.begins_branch a.2 then None else (R Atom a.2 >>= λ b. taller (max a.1 b.1) >>= λ h. Some (merged p.0 a.0 b.0, h, b.2))) (Some (x, c.1.0 + 1, m)) c.0
-              (then_some (λ bs. taller bs.1 >>= λ h. Some (node (form.Merge p.0 bs.0), h, bs.2)) (r.branches n R b2.0) (p.1, c.1.0, m) (Some (x, c.1.0 + 1, m)) c.1.2
-                (then_some (λ h. Some (node (form.Merge p.0 p.1), h, m)) (taller c.1.0) (c.1.0 + 1) (Some (x, c.1.0 + 1, m)) (taller_reads c.1.0 d c.1.1 small) (λ i. Some (sym made.1 i, c.1.0 + 1, m))))))
+            (R Atom b2.0 >>= λ a. if r.begins_branch a.2 then None else (R Atom a.2 >>= λ b. taller (max a.1 b.1) >>= λ h. Some (merged p.0 a.0 b.0, h, b.2))) (Some (x, c.1.0 + 1, m)) c.0
+            (then_some (λ bs. taller bs.1 >>= λ h. Some (node (form.Merge p.0 bs.0), h, bs.2)) (r.branches n R b2.0) (p.1, c.1.0, m) (Some (x, c.1.0 + 1, m)) c.1.2
+            (then_some (λ h. Some (node (form.Merge p.0 p.1), h, m)) (taller c.1.0) (c.1.0 + 1) (Some (x, c.1.0 + 1, m)) (taller_reads c.1.0 d c.1.1 small) (λ i. Some (sym made.1 i, c.1.0 + 1, m))))),
+      )
 
   heads : (t u : Token) (ts us : List Token) → t ∷ ts ≡ u ∷ us → t ≡ u
   heads t u ts us e = cc
@@ -442,15 +462,18 @@ module _ (n d : ℕ) (small : suc d ≤ 200) (R : Level → Reader Tree) (ih : (
       let c = (ih Atom).finds b2.0 b3.0 p.1.0 few2 tt (b3.1.0, b3.1.1, b3.1.2.0) in
       let e = (ih Atom).finds b3.0 m p.1.1 few3 tt (b3.2.0, b3.2.1, b3.2.2.0) in
       let high = max_le c.0 e.0 d c.1 e.1 in
-      let k = max c.0 e.0 in
-      (k + 1, suc_le k d high, ap (r.application n R) b1.1
-        ∙ then_some (λ p. r.merge n R p.0 p.1) (name b1.0) (p.0, b2.0) (Some (x, k + 1, m)) (name_reads p.0 b1.0 b2.0 b2.1)
+      let k = max c.0 e.0 in (
+        k + 1,
+        suc_le k d high,
+        ap (r.application n R) b1.1
+            ∙ then_some (λ p. r.merge n R p.0 p.1) (name b1.0) (p.0, b2.0) (Some (x, k + 1, m)) (name_reads p.0 b1.0 b2.0 b2.1)
             (if_no (r.begins_branch b2.0) (r.branches n R b2.0 >>= λ bs. taller bs.1 >>= λ h. Some (node (form.Merge p.0 bs.0), h, bs.2))
-              (R Atom b2.0 >>= λ a. if r.begins_branch a.2 then None else (R Atom a.2 >>= λ b. taller (max a.1 b.1) >>= λ h. Some (merged p.0 a.0 b.0, h, b.2))) (Some (x, k + 1, m)) (bare_closed p.1.0 b2.0 b3.0 b3.1)
-              (then_some (λ a. if r.begins_branch a.2 then None else (R Atom a.2 >>= λ b. taller (max a.1 b.1) >>= λ h. Some (merged p.0 a.0 b.0, h, b.2))) (R Atom b2.0) (p.1.0, c.0, b3.0) (Some (x, k + 1, m)) c.2
-                (if_no (r.begins_branch b3.0) None (R Atom b3.0 >>= λ b. taller (max c.0 b.1) >>= λ h. Some (merged p.0 p.1.0 b.0, h, b.2)) (Some (x, k + 1, m)) (bare_closed p.1.1 b3.0 m b3.2)
-                  (then_some (λ b. taller (max c.0 b.1) >>= λ h. Some (merged p.0 p.1.0 b.0, h, b.2)) (R Atom b3.0) (p.1.1, e.0, m) (Some (x, k + 1, m)) e.2
-                    (then_some (λ h. Some (merged p.0 p.1.0 p.1.1, h, m)) (taller k) (k + 1) (Some (x, k + 1, m)) (taller_reads k d high small) (λ i. Some (sym made.1 i, k + 1, m))))))))
+            (R Atom b2.0 >>= λ a. if r.begins_branch a.2 then None else (R Atom a.2 >>= λ b. taller (max a.1 b.1) >>= λ h. Some (merged p.0 a.0 b.0, h, b.2))) (Some (x, k + 1, m)) (bare_closed p.1.0 b2.0 b3.0 b3.1)
+            (then_some (λ a. if r.begins_branch a.2 then None else (R Atom a.2 >>= λ b. taller (max a.1 b.1) >>= λ h. Some (merged p.0 a.0 b.0, h, b.2))) (R Atom b2.0) (p.1.0, c.0, b3.0) (Some (x, k + 1, m)) c.2
+            (if_no (r.begins_branch b3.0) None (R Atom b3.0 >>= λ b. taller (max c.0 b.1) >>= λ h. Some (merged p.0 p.1.0 b.0, h, b.2)) (Some (x, k + 1, m)) (bare_closed p.1.1 b3.0 m b3.2)
+            (then_some (λ b. taller (max c.0 b.1) >>= λ h. Some (merged p.0 p.1.0 b.0, h, b.2)) (R Atom b3.0) (p.1.1, e.0, m) (Some (x, k + 1, m)) e.2
+            (then_some (λ h. Some (merged p.0 p.1.0 p.1.1, h, m)) (taller k) (k + 1) (Some (x, k + 1, m)) (taller_reads k d high small) (λ i. Some (sym made.1 i, k + 1, m))))))),
+      )
 
   -- parentheses
 
@@ -480,30 +503,30 @@ module _ (n d : ℕ) (small : suc d ≤ 200) (R : Level → Reader Tree) (ih : (
       let same = some_one (s3.0, s4.0, s2.0.2) s1.0 s4.2 in
       let climbed : r.climb n R n Expr Unary s3.0 s4.0 s2.0.2 ≡ Some (e, h, q) = (λ i. r.climb n R n Expr Unary (same i).0 (same i).1 (same i).2) ∙ s1.2 in
       if_no (starts ParenRight l) (word ParenRight l >>= λ m. Some (constant leaf.Unit, 1, m))
-        (if r.begins_call l then
-            (r.call n R l >>= λ x. if starts KwEvery x.2 then r.every n R x.0.0 x.0.1.0 x.0.1.1 x.1 x.2 else (applied x.0.0 x.0.1.0 x.0.1.1 >>= λ e. taller x.1 >>= λ h. r.climb n R n Expr Unary e h x.2 >>= λ y. r.group_from n R y.0 y.1 y.2))
-            else (R Expr l >>= λ y. r.group_from n R y.0 y.1 y.2)) (r.group_from n R e h q) noparen
-        (if_yes (r.begins_call l)
-            (r.call n R l >>= λ x. if starts KwEvery x.2 then r.every n R x.0.0 x.0.1.0 x.0.1.1 x.1 x.2 else (applied x.0.0 x.0.1.0 x.0.1.1 >>= λ e. taller x.1 >>= λ h. r.climb n R n Expr Unary e h x.2 >>= λ y. r.group_from n R y.0 y.1 y.2))
-            (R Expr l >>= λ y. r.group_from n R y.0 y.1 y.2) (r.group_from n R e h q) begun
-          (then_some (λ x. if starts KwEvery x.2 then r.every n R x.0.0 x.0.1.0 x.0.1.1 x.1 x.2 else (applied x.0.0 x.0.1.0 x.0.1.1 >>= λ e. taller x.1 >>= λ h. r.climb n R n Expr Unary e h x.2 >>= λ y. r.group_from n R y.0 y.1 y.2)) (r.call n R l) s2.0 (r.group_from n R e h q) s2.1
-            (if_no (starts KwEvery s2.0.2) (r.every n R s2.0.0.0 s2.0.0.1.0 s2.0.0.1.1 s2.0.1 s2.0.2) (applied s2.0.0.0 s2.0.0.1.0 s2.0.0.1.1 >>= λ e. taller s2.0.1 >>= λ h. r.climb n R n Expr Unary e h s2.0.2 >>= λ y. r.group_from n R y.0 y.1 y.2) (r.group_from n R e h q)
-              (no_every w other l2 s3.0 s4.0 s2.0.2 (e, h, q) climbed is (starts KwEvery s2.0.2) refl)
-              (then_some (λ e. taller s2.0.1 >>= λ h. r.climb n R n Expr Unary e h s2.0.2 >>= λ y. r.group_from n R y.0 y.1 y.2) (applied s2.0.0.0 s2.0.0.1.0 s2.0.0.1.1) s3.0 (r.group_from n R e h q) s3.1
-                (then_some (λ h. r.climb n R n Expr Unary s3.0 h s2.0.2 >>= λ y. r.group_from n R y.0 y.1 y.2) (taller s2.0.1) s4.0 (r.group_from n R e h q) s4.1
-                  (then_some (λ y. r.group_from n R y.0 y.1 y.2) (r.climb n R n Expr Unary s3.0 s4.0 s2.0.2) (e, h, q) (r.group_from n R e h q) climbed refl))))))
+      (if r.begins_call l then
+      (r.call n R l >>= λ x. if starts KwEvery x.2 then r.every n R x.0.0 x.0.1.0 x.0.1.1 x.1 x.2 else (applied x.0.0 x.0.1.0 x.0.1.1 >>= λ e. taller x.1 >>= λ h. r.climb n R n Expr Unary e h x.2 >>= λ y. r.group_from n R y.0 y.1 y.2))
+      else (R Expr l >>= λ y. r.group_from n R y.0 y.1 y.2)) (r.group_from n R e h q) noparen
+      (if_yes (r.begins_call l)
+      (r.call n R l >>= λ x. if starts KwEvery x.2 then r.every n R x.0.0 x.0.1.0 x.0.1.1 x.1 x.2 else (applied x.0.0 x.0.1.0 x.0.1.1 >>= λ e. taller x.1 >>= λ h. r.climb n R n Expr Unary e h x.2 >>= λ y. r.group_from n R y.0 y.1 y.2))
+      (R Expr l >>= λ y. r.group_from n R y.0 y.1 y.2) (r.group_from n R e h q) begun
+      (then_some (λ x. if starts KwEvery x.2 then r.every n R x.0.0 x.0.1.0 x.0.1.1 x.1 x.2 else (applied x.0.0 x.0.1.0 x.0.1.1 >>= λ e. taller x.1 >>= λ h. r.climb n R n Expr Unary e h x.2 >>= λ y. r.group_from n R y.0 y.1 y.2)) (r.call n R l) s2.0 (r.group_from n R e h q) s2.1
+      (if_no (starts KwEvery s2.0.2) (r.every n R s2.0.0.0 s2.0.0.1.0 s2.0.0.1.1 s2.0.1 s2.0.2) (applied s2.0.0.0 s2.0.0.1.0 s2.0.0.1.1 >>= λ e. taller s2.0.1 >>= λ h. r.climb n R n Expr Unary e h s2.0.2 >>= λ y. r.group_from n R y.0 y.1 y.2) (r.group_from n R e h q)
+      (no_every w other l2 s3.0 s4.0 s2.0.2 (e, h, q) climbed is (starts KwEvery s2.0.2) refl)
+      (then_some (λ e. taller s2.0.1 >>= λ h. r.climb n R n Expr Unary e h s2.0.2 >>= λ y. r.group_from n R y.0 y.1 y.2) (applied s2.0.0.0 s2.0.0.1.0 s2.0.0.1.1) s3.0 (r.group_from n R e h q) s3.1
+      (then_some (λ h. r.climb n R n Expr Unary s3.0 h s2.0.2 >>= λ y. r.group_from n R y.0 y.1 y.2) (taller s2.0.1) s4.0 (r.group_from n R e h q) s4.1
+      (then_some (λ y. r.group_from n R y.0 y.1 y.2) (r.climb n R n Expr Unary s3.0 s4.0 s2.0.2) (e, h, q) (r.group_from n R e h q) climbed refl))))))
 
   other_group : (e : Tree) (h : ℕ) (l q : List Token) → starts ParenRight l ≡ false → r.begins_call l ≡ false → R Expr l ≡ Some (e, h, q) → r.group n R l ≡ r.group_from n R e h q
   unfolding r.group
   other_group e h l q noparen begun read =
       if_no (starts ParenRight l) (word ParenRight l >>= λ m. Some (constant leaf.Unit, 1, m))
-        (if r.begins_call l then
-            (r.call n R l >>= λ x. if starts KwEvery x.2 then r.every n R x.0.0 x.0.1.0 x.0.1.1 x.1 x.2 else (applied x.0.0 x.0.1.0 x.0.1.1 >>= λ e. taller x.1 >>= λ h. r.climb n R n Expr Unary e h x.2 >>= λ y. r.group_from n R y.0 y.1 y.2))
-            else (R Expr l >>= λ y. r.group_from n R y.0 y.1 y.2)) (r.group_from n R e h q) noparen
-        (if_no (r.begins_call l)
-            (r.call n R l >>= λ x. if starts KwEvery x.2 then r.every n R x.0.0 x.0.1.0 x.0.1.1 x.1 x.2 else (applied x.0.0 x.0.1.0 x.0.1.1 >>= λ e. taller x.1 >>= λ h. r.climb n R n Expr Unary e h x.2 >>= λ y. r.group_from n R y.0 y.1 y.2))
-            (R Expr l >>= λ y. r.group_from n R y.0 y.1 y.2) (r.group_from n R e h q) begun
-          (then_some (λ y. r.group_from n R y.0 y.1 y.2) (R Expr l) (e, h, q) (r.group_from n R e h q) read refl))
+      (if r.begins_call l then
+      (r.call n R l >>= λ x. if starts KwEvery x.2 then r.every n R x.0.0 x.0.1.0 x.0.1.1 x.1 x.2 else (applied x.0.0 x.0.1.0 x.0.1.1 >>= λ e. taller x.1 >>= λ h. r.climb n R n Expr Unary e h x.2 >>= λ y. r.group_from n R y.0 y.1 y.2))
+      else (R Expr l >>= λ y. r.group_from n R y.0 y.1 y.2)) (r.group_from n R e h q) noparen
+      (if_no (r.begins_call l)
+      (r.call n R l >>= λ x. if starts KwEvery x.2 then r.every n R x.0.0 x.0.1.0 x.0.1.1 x.1 x.2 else (applied x.0.0 x.0.1.0 x.0.1.1 >>= λ e. taller x.1 >>= λ h. r.climb n R n Expr Unary e h x.2 >>= λ y. r.group_from n R y.0 y.1 y.2))
+      (R Expr l >>= λ y. r.group_from n R y.0 y.1 y.2) (r.group_from n R e h q) begun
+      (then_some (λ y. r.group_from n R y.0 y.1 y.2) (R Expr l) (e, h, q) (r.group_from n R e h q) read refl))
 
   no_paren : (l : List Token) (z : Got Tree) → r.phrase n R Expr l ≡ Some z → (b : Bool) → starts ParenRight l ≡ b → starts ParenRight l ≡ false
   no_paren l z read true so = let f = first_is ParenRight l so in absurd (none_some z (sym (no_phrase n R f.0) ∙ ap (r.phrase n R Expr) (sym f.1) ∙ read))
@@ -527,10 +550,10 @@ module _ (n d : ℕ) (small : suc d ≤ 200) (R : Level → Reader Tree) (ih : (
   unfolding r.atom
   parenthesised ts l is z read =
       if_yes (starts ParenLeft ts) (word ParenLeft ts >>= r.group n R)
-        (if starts KwLast ts then (word KwLast ts >>= λ m. name m >>= λ p. Some (node (form.Last p.0), 1, p.1))
-           else if starts Question ts then (word Question ts >>= λ m. name m >>= λ p. Some (node (form.Asked p.0), 1, p.1))
-           else r.single ts) z (starts_yes ParenLeft ts l is)
-        (then_some (r.group n R) (word ParenLeft ts) l z (word_reads ParenLeft ts l is) read)
+      (if starts KwLast ts then (word KwLast ts >>= λ m. name m >>= λ p. Some (node (form.Last p.0), 1, p.1))
+      else if starts Question ts then (word Question ts >>= λ m. name m >>= λ p. Some (node (form.Asked p.0), 1, p.1))
+      else r.single ts) z (starts_yes ParenLeft ts l is)
+      (then_some (r.group n R) (word ParenLeft ts) l z (word_reads ParenLeft ts l is) read)
 
   group_found : (x : Tree) (ts m : List Token) → length ts ≤ n → At (ParenLeft ▷ (IsExpr d Expr ◁ ParenRight)) x ts m → Found (r.atom n R) x ts m
   unfolding r.group_from
@@ -538,11 +561,14 @@ module _ (n d : ℕ) (small : suc d ≤ 200) (R : Level → Reader Tree) (ih : (
       let b1 = of_word (IsExpr d Expr ◁ ParenRight) ParenLeft x ts m a in
       let b2 = of_end (IsExpr d Expr) ParenRight x b1.0 m b1.2 in
       let q = Word ParenRight ∷ m in
-      let c = content_found ParenRight refl refl refl x b1.0 (Word ParenRight ∷ m) m b2 refl (rest_few n (Word ParenLeft) ts b1.0 b1.1 few) in
-      (c.0 + 1, suc_le c.0 d c.1, parenthesised ts b1.0 b1.1 (Some (x, c.0 + 1, m)) (c.2
-        ∙ if_no (starts Comma (Word ParenRight ∷ m)) (r.tuple n R x c.0 (Word ParenRight ∷ m)) (word ParenRight (Word ParenRight ∷ m) >>= λ m. taller c.0 >>= λ k. Some (x, k, m)) (Some (x, c.0 + 1, m)) (starts_no Comma (Word ParenRight) (Word ParenRight ∷ m) m refl refl)
+      let c = content_found ParenRight refl refl refl x b1.0 (Word ParenRight ∷ m) m b2 refl (rest_few n (Word ParenLeft) ts b1.0 b1.1 few) in (
+        c.0 + 1,
+        suc_le c.0 d c.1,
+        parenthesised ts b1.0 b1.1 (Some (x, c.0 + 1, m)) (c.2
+            ∙ if_no (starts Comma (Word ParenRight ∷ m)) (r.tuple n R x c.0 (Word ParenRight ∷ m)) (word ParenRight (Word ParenRight ∷ m) >>= λ m. taller c.0 >>= λ k. Some (x, k, m)) (Some (x, c.0 + 1, m)) (starts_no Comma (Word ParenRight) (Word ParenRight ∷ m) m refl refl)
             (then_some (λ m. taller c.0 >>= λ k. Some (x, k, m)) (word ParenRight (Word ParenRight ∷ m)) m (Some (x, c.0 + 1, m)) (word_reads ParenRight (Word ParenRight ∷ m) m refl)
-              (then_some (λ k. Some (x, k, m)) (taller c.0) (c.0 + 1) (Some (x, c.0 + 1, m)) (taller_reads c.0 d c.1 small) refl))))
+            (then_some (λ k. Some (x, k, m)) (taller c.0) (c.0 + 1) (Some (x, c.0 + 1, m)) (taller_reads c.0 d c.1 small) refl))),
+      )
 
   comma_begins : (x : Tree) (ts m : List Token) → At (Comma ▷ IsExpr d Expr) x ts m → starts Comma ts ≡ true
   comma_begins x ts m a = let b = of_word (IsExpr d Expr) Comma x ts m a in starts_yes Comma ts b.0 b.1
@@ -578,12 +604,15 @@ module _ (n d : ℕ) (small : suc d ≤ 200) (R : Level → Reader Tree) (ih : (
       let c = content_found Comma refl refl refl p.0 b1.0 b3.0 b4.0.0 b3.1 b4.0.1 few1 in
       let short = row_short n d (starts Comma) (behind Comma (R Expr)) (Comma ▷ IsExpr d Expr) (Quiet Expr) (sure_behind Comma (ih Expr)) comma_begins comma_quiet comma_takes p.1 b3.0 (Word ParenRight ∷ m) b4.1 in
       let e = row_found n d (starts Comma) (behind Comma (R Expr)) (Comma ▷ IsExpr d Expr) (Quiet Expr) (sure_behind Comma (ih Expr)) comma_begins comma_quiet n (p.0 ∷ []) p.1 c.0 b3.0 (Word ParenRight ∷ m)
-          (le_trans (length p.1) (length b3.0) n short few2) (inr (starts_no Comma (Word ParenRight) (Word ParenRight ∷ m) m refl refl)) c.1 few2 (quiet_word ParenRight refl refl Expr (Word ParenRight ∷ m) m refl) b4.1 in
-      (e.0 + 1, suc_le e.0 d e.1, parenthesised ts b1.0 b1.1 (Some (x, e.0 + 1, m)) (c.2
-        ∙ if_yes (starts Comma b3.0) (r.tuple n R p.0 c.0 b3.0) (word ParenRight b3.0 >>= λ m. taller c.0 >>= λ k. Some (p.0, k, m)) (Some (x, e.0 + 1, m)) (starts_yes Comma b3.0 b4.0.0 b4.0.1)
+      (le_trans (length p.1) (length b3.0) n short few2) (inr (starts_no Comma (Word ParenRight) (Word ParenRight ∷ m) m refl refl)) c.1 few2 (quiet_word ParenRight refl refl Expr (Word ParenRight ∷ m) m refl) b4.1 in (
+        e.0 + 1,
+        suc_le e.0 d e.1,
+        parenthesised ts b1.0 b1.1 (Some (x, e.0 + 1, m)) (c.2
+            ∙ if_yes (starts Comma b3.0) (r.tuple n R p.0 c.0 b3.0) (word ParenRight b3.0 >>= λ m. taller c.0 >>= λ k. Some (p.0, k, m)) (Some (x, e.0 + 1, m)) (starts_yes Comma b3.0 b4.0.0 b4.0.1)
             (then_some (λ x. word ParenRight x.2 >>= λ m. taller x.1 >>= λ k. Some (node (form.Tuple x.0), k, m)) (collect n (starts Comma) (behind Comma (R Expr)) (p.0 ∷ []) c.0 b3.0) (p.0 ∷ p.1, e.0, Word ParenRight ∷ m) (Some (x, e.0 + 1, m)) e.2
-              (then_some (λ m. taller e.0 >>= λ k. Some (node (form.Tuple (p.0 ∷ p.1)), k, m)) (word ParenRight (Word ParenRight ∷ m)) m (Some (x, e.0 + 1, m)) (word_reads ParenRight (Word ParenRight ∷ m) m refl)
-                (then_some (λ k. Some (node (form.Tuple (p.0 ∷ p.1)), k, m)) (taller e.0) (e.0 + 1) (Some (x, e.0 + 1, m)) (taller_reads e.0 d e.1 small) (λ i. Some (sym made.1 i, e.0 + 1, m)))))))
+            (then_some (λ m. taller e.0 >>= λ k. Some (node (form.Tuple (p.0 ∷ p.1)), k, m)) (word ParenRight (Word ParenRight ∷ m)) m (Some (x, e.0 + 1, m)) (word_reads ParenRight (Word ParenRight ∷ m) m refl)
+            (then_some (λ k. Some (node (form.Tuple (p.0 ∷ p.1)), k, m)) (taller e.0) (e.0 + 1) (Some (x, e.0 + 1, m)) (taller_reads e.0 d e.1 small) (λ i. Some (sym made.1 i, e.0 + 1, m)))))),
+      )
 
   call_not : (l : List Token) → r.begins_call l ≡ true → starts ParenRight l ≡ false
   unfolding r.begins_call starts
@@ -618,29 +647,32 @@ module _ (n d : ℕ) (small : suc d ≤ 200) (R : Level → Reader Tree) (ih : (
       let e = (ih Expr).finds b4.0 (Word ParenRight ∷ m) p.1 few3 (quiet_word ParenRight refl refl Expr (Word ParenRight ∷ m) m refl) b4.2 in
       let k = max c.0 e.0 in
       let high = max_le c.0 e.0 d c.1 e.1 in
-      let l = b1.0 in
-      (k + 1, suc_le k d high, parenthesised ts b1.0 b1.1 (Some (x, k + 1, m))
-        (if_no (starts ParenRight l) (word ParenRight l >>= λ m. Some (constant leaf.Unit, 1, m))
-          (if r.begins_call l then
+      let l = b1.0 in (
+        k + 1,
+        suc_le k d high,
+        parenthesised ts b1.0 b1.1 (Some (x, k + 1, m))
+            (if_no (starts ParenRight l) (word ParenRight l >>= λ m. Some (constant leaf.Unit, 1, m))
+            (if r.begins_call l then
             (r.call n R l >>= λ x. if starts KwEvery x.2 then r.every n R x.0.0 x.0.1.0 x.0.1.1 x.1 x.2 else (applied x.0.0 x.0.1.0 x.0.1.1 >>= λ e. taller x.1 >>= λ h. r.climb n R n Expr Unary e h x.2 >>= λ y. r.group_from n R y.0 y.1 y.2))
             else (R Expr l >>= λ y. r.group_from n R y.0 y.1 y.2)) (Some (x, k + 1, m)) (call_not l c.3)
-          (if_yes (r.begins_call l)
-              (r.call n R l >>= λ x. if starts KwEvery x.2 then r.every n R x.0.0 x.0.1.0 x.0.1.1 x.1 x.2 else (applied x.0.0 x.0.1.0 x.0.1.1 >>= λ e. taller x.1 >>= λ h. r.climb n R n Expr Unary e h x.2 >>= λ y. r.group_from n R y.0 y.1 y.2))
-              (R Expr l >>= λ y. r.group_from n R y.0 y.1 y.2) (Some (x, k + 1, m)) c.3
+            (if_yes (r.begins_call l)
+            (r.call n R l >>= λ x. if starts KwEvery x.2 then r.every n R x.0.0 x.0.1.0 x.0.1.1 x.1 x.2 else (applied x.0.0 x.0.1.0 x.0.1.1 >>= λ e. taller x.1 >>= λ h. r.climb n R n Expr Unary e h x.2 >>= λ y. r.group_from n R y.0 y.1 y.2))
+            (R Expr l >>= λ y. r.group_from n R y.0 y.1 y.2) (Some (x, k + 1, m)) c.3
             (then_some (λ x. if starts KwEvery x.2 then r.every n R x.0.0 x.0.1.0 x.0.1.1 x.1 x.2 else (applied x.0.0 x.0.1.0 x.0.1.1 >>= λ e. taller x.1 >>= λ h. r.climb n R n Expr Unary e h x.2 >>= λ y. r.group_from n R y.0 y.1 y.2)) (r.call n R l) (p.0, c.0, b3.0) (Some (x, k + 1, m)) c.2
-              (if_yes (starts KwEvery b3.0) (r.every n R p.0.0 p.0.1.0 p.0.1.1 c.0 b3.0) (applied p.0.0 p.0.1.0 p.0.1.1 >>= λ e. taller c.0 >>= λ h. r.climb n R n Expr Unary e h b3.0 >>= λ y. r.group_from n R y.0 y.1 y.2) (Some (x, k + 1, m)) (starts_yes KwEvery b3.0 b4.0 b4.1)
-                (if_no (nat_eq (length p.0.1.1) 0) None (word KwEvery b3.0 >>= λ m. R Expr m >>= λ y. word ParenRight y.2 >>= λ m. taller (max c.0 y.1) >>= λ k. Some (node (form.Call p.0.0 p.0.1.0 p.0.1.1 (Some y.0)), k, m)) (Some (x, k + 1, m)) (some_args p.0.1.1 c.4 c.5 c.6)
-                  (then_some (λ m. R Expr m >>= λ y. word ParenRight y.2 >>= λ m. taller (max c.0 y.1) >>= λ k. Some (node (form.Call p.0.0 p.0.1.0 p.0.1.1 (Some y.0)), k, m)) (word KwEvery b3.0) b4.0 (Some (x, k + 1, m)) (word_reads KwEvery b3.0 b4.0 b4.1)
-                    (then_some (λ y. word ParenRight y.2 >>= λ m. taller (max c.0 y.1) >>= λ k. Some (node (form.Call p.0.0 p.0.1.0 p.0.1.1 (Some y.0)), k, m)) (R Expr b4.0) (p.1, e.0, Word ParenRight ∷ m) (Some (x, k + 1, m)) e.2
-                      (then_some (λ m. taller k >>= λ k. Some (node (form.Call p.0.0 p.0.1.0 p.0.1.1 (Some p.1)), k, m)) (word ParenRight (Word ParenRight ∷ m)) m (Some (x, k + 1, m)) (word_reads ParenRight (Word ParenRight ∷ m) m refl)
-                        (then_some (λ k. Some (node (form.Call p.0.0 p.0.1.0 p.0.1.1 (Some p.1)), k, m)) (taller k) (k + 1) (Some (x, k + 1, m)) (taller_reads k d high small) (λ i. Some (sym made.1 i, k + 1, m))))))))))))
+            (if_yes (starts KwEvery b3.0) (r.every n R p.0.0 p.0.1.0 p.0.1.1 c.0 b3.0) (applied p.0.0 p.0.1.0 p.0.1.1 >>= λ e. taller c.0 >>= λ h. r.climb n R n Expr Unary e h b3.0 >>= λ y. r.group_from n R y.0 y.1 y.2) (Some (x, k + 1, m)) (starts_yes KwEvery b3.0 b4.0 b4.1)
+            (if_no (nat_eq (length p.0.1.1) 0) None (word KwEvery b3.0 >>= λ m. R Expr m >>= λ y. word ParenRight y.2 >>= λ m. taller (max c.0 y.1) >>= λ k. Some (node (form.Call p.0.0 p.0.1.0 p.0.1.1 (Some y.0)), k, m)) (Some (x, k + 1, m)) (some_args p.0.1.1 c.4 c.5 c.6)
+            (then_some (λ m. R Expr m >>= λ y. word ParenRight y.2 >>= λ m. taller (max c.0 y.1) >>= λ k. Some (node (form.Call p.0.0 p.0.1.0 p.0.1.1 (Some y.0)), k, m)) (word KwEvery b3.0) b4.0 (Some (x, k + 1, m)) (word_reads KwEvery b3.0 b4.0 b4.1)
+            (then_some (λ y. word ParenRight y.2 >>= λ m. taller (max c.0 y.1) >>= λ k. Some (node (form.Call p.0.0 p.0.1.0 p.0.1.1 (Some y.0)), k, m)) (R Expr b4.0) (p.1, e.0, Word ParenRight ∷ m) (Some (x, k + 1, m)) e.2
+            (then_some (λ m. taller k >>= λ k. Some (node (form.Call p.0.0 p.0.1.0 p.0.1.1 (Some p.1)), k, m)) (word ParenRight (Word ParenRight ∷ m)) m (Some (x, k + 1, m)) (word_reads ParenRight (Word ParenRight ∷ m) m refl)
+            (then_some (λ k. Some (node (form.Call p.0.0 p.0.1.0 p.0.1.1 (Some p.1)), k, m)) (taller k) (k + 1) (Some (x, k + 1, m)) (taller_reads k d high small) (λ i. Some (sym made.1 i, k + 1, m))))))))))),
+      )
 
   word_atom : (w : Fixed) → is_word KwRun (Word w) ≡ false → is_word KwMerge (Word w) ≡ false → (ts l : List Token) → ts ≡ Word w ∷ l → r.application n R ts ≡ r.atom n R ts
   unfolding r.application
   word_atom w run merge ts l is =
       ap (r.application n R) is
       ∙ if_no (is_word KwRun (Word w)) (r.named n R (Word w ∷ l)) (if is_word KwMerge (Word w) then (name l >>= λ p. r.merge n R p.0 p.1) else r.atom n R (Word w ∷ l)) (r.atom n R (Word w ∷ l)) run
-          (if_no (is_word KwMerge (Word w)) (name l >>= λ p. r.merge n R p.0 p.1) (r.atom n R (Word w ∷ l)) (r.atom n R (Word w ∷ l)) merge refl)
+      (if_no (is_word KwMerge (Word w)) (name l >>= λ p. r.merge n R p.0 p.1) (r.atom n R (Word w ∷ l)) (r.atom n R (Word w ∷ l)) merge refl)
       ∙ ap (r.atom n R) (sym is)
 
   -- a literal, a constructor or a name
@@ -648,14 +680,14 @@ module _ (n d : ℕ) (small : suc d ≤ 200) (R : Level → Reader Tree) (ih : (
   unfolding r.atom r.single
   simple_found t x ts m is e =
       if_no (starts ParenLeft ts) (word ParenLeft ts >>= r.group n R)
-        (if starts KwLast ts then (word KwLast ts >>= λ m. name m >>= λ p. Some (node (form.Last p.0), 1, p.1))
-           else if starts Question ts then (word Question ts >>= λ m. name m >>= λ p. Some (node (form.Asked p.0), 1, p.1))
-           else r.single ts) (Some (x, 1, m)) (starts_no ParenLeft t ts m is (not_simple ParenLeft t x refl e))
-        (if_no (starts KwLast ts) (word KwLast ts >>= λ m. name m >>= λ p. Some (node (form.Last p.0), 1, p.1))
-           (if starts Question ts then (word Question ts >>= λ m. name m >>= λ p. Some (node (form.Asked p.0), 1, p.1)) else r.single ts) (Some (x, 1, m)) (starts_no KwLast t ts m is (not_simple KwLast t x refl e))
-          (if_no (starts Question ts) (word Question ts >>= λ m. name m >>= λ p. Some (node (form.Asked p.0), 1, p.1)) (r.single ts) (Some (x, 1, m)) (starts_no Question t ts m is (not_simple Question t x refl e))
-            (then_some (λ p. simple p.0 >>= λ e. Some (e, 1, p.1)) (uncons ts) (t, m) (Some (x, 1, m)) (ap uncons is)
-              (then_some (λ e. Some (e, 1, m)) (simple t) x (Some (x, 1, m)) e refl))))
+      (if starts KwLast ts then (word KwLast ts >>= λ m. name m >>= λ p. Some (node (form.Last p.0), 1, p.1))
+      else if starts Question ts then (word Question ts >>= λ m. name m >>= λ p. Some (node (form.Asked p.0), 1, p.1))
+      else r.single ts) (Some (x, 1, m)) (starts_no ParenLeft t ts m is (not_simple ParenLeft t x refl e))
+      (if_no (starts KwLast ts) (word KwLast ts >>= λ m. name m >>= λ p. Some (node (form.Last p.0), 1, p.1))
+      (if starts Question ts then (word Question ts >>= λ m. name m >>= λ p. Some (node (form.Asked p.0), 1, p.1)) else r.single ts) (Some (x, 1, m)) (starts_no KwLast t ts m is (not_simple KwLast t x refl e))
+      (if_no (starts Question ts) (word Question ts >>= λ m. name m >>= λ p. Some (node (form.Asked p.0), 1, p.1)) (r.single ts) (Some (x, 1, m)) (starts_no Question t ts m is (not_simple Question t x refl e))
+      (then_some (λ p. simple p.0 >>= λ e. Some (e, 1, p.1)) (uncons ts) (t, m) (Some (x, 1, m)) (ap uncons is)
+      (then_some (λ e. Some (e, 1, m)) (simple t) x (Some (x, 1, m)) e refl))))
 
   last_found : (x : Tree) (ts m : List Token) → At ((KwLast ▷ identifier) ⇒ (λ x. node (form.Last x))) x ts m → r.atom n R ts ≡ Some (x, 1, m)
   unfolding r.atom
@@ -663,13 +695,13 @@ module _ (n d : ℕ) (small : suc d ≤ 200) (R : Level → Reader Tree) (ih : (
       let made = of_made (KwLast ▷ identifier) (λ x. node (form.Last x)) x ts m a in
       let b = of_word identifier KwLast made.0 ts m made.2 in
       if_no (starts ParenLeft ts) (word ParenLeft ts >>= r.group n R)
-        (if starts KwLast ts then (word KwLast ts >>= λ m. name m >>= λ p. Some (node (form.Last p.0), 1, p.1))
-           else if starts Question ts then (word Question ts >>= λ m. name m >>= λ p. Some (node (form.Asked p.0), 1, p.1))
-           else r.single ts) (Some (x, 1, m)) (starts_no ParenLeft (Word KwLast) ts b.0 b.1 refl)
-        (if_yes (starts KwLast ts) (word KwLast ts >>= λ m. name m >>= λ p. Some (node (form.Last p.0), 1, p.1))
-           (if starts Question ts then (word Question ts >>= λ m. name m >>= λ p. Some (node (form.Asked p.0), 1, p.1)) else r.single ts) (Some (x, 1, m)) (starts_yes KwLast ts b.0 b.1)
-          (then_some (λ m. name m >>= λ p. Some (node (form.Last p.0), 1, p.1)) (word KwLast ts) b.0 (Some (x, 1, m)) (word_reads KwLast ts b.0 b.1)
-            (then_some (λ p. Some (node (form.Last p.0), 1, p.1)) (name b.0) (made.0, m) (Some (x, 1, m)) (name_reads made.0 b.0 m b.2) (λ i. Some (sym made.1 i, 1, m)))))
+      (if starts KwLast ts then (word KwLast ts >>= λ m. name m >>= λ p. Some (node (form.Last p.0), 1, p.1))
+      else if starts Question ts then (word Question ts >>= λ m. name m >>= λ p. Some (node (form.Asked p.0), 1, p.1))
+      else r.single ts) (Some (x, 1, m)) (starts_no ParenLeft (Word KwLast) ts b.0 b.1 refl)
+      (if_yes (starts KwLast ts) (word KwLast ts >>= λ m. name m >>= λ p. Some (node (form.Last p.0), 1, p.1))
+      (if starts Question ts then (word Question ts >>= λ m. name m >>= λ p. Some (node (form.Asked p.0), 1, p.1)) else r.single ts) (Some (x, 1, m)) (starts_yes KwLast ts b.0 b.1)
+      (then_some (λ m. name m >>= λ p. Some (node (form.Last p.0), 1, p.1)) (word KwLast ts) b.0 (Some (x, 1, m)) (word_reads KwLast ts b.0 b.1)
+      (then_some (λ p. Some (node (form.Last p.0), 1, p.1)) (name b.0) (made.0, m) (Some (x, 1, m)) (name_reads made.0 b.0 m b.2) (λ i. Some (sym made.1 i, 1, m)))))
 
   asked_found : (x : Tree) (ts m : List Token) → At ((Question ▷ identifier) ⇒ (λ x. node (form.Asked x))) x ts m → r.atom n R ts ≡ Some (x, 1, m)
   unfolding r.atom
@@ -677,14 +709,14 @@ module _ (n d : ℕ) (small : suc d ≤ 200) (R : Level → Reader Tree) (ih : (
       let made = of_made (Question ▷ identifier) (λ x. node (form.Asked x)) x ts m a in
       let b = of_word identifier Question made.0 ts m made.2 in
       if_no (starts ParenLeft ts) (word ParenLeft ts >>= r.group n R)
-        (if starts KwLast ts then (word KwLast ts >>= λ m. name m >>= λ p. Some (node (form.Last p.0), 1, p.1))
-           else if starts Question ts then (word Question ts >>= λ m. name m >>= λ p. Some (node (form.Asked p.0), 1, p.1))
-           else r.single ts) (Some (x, 1, m)) (starts_no ParenLeft (Word Question) ts b.0 b.1 refl)
-        (if_no (starts KwLast ts) (word KwLast ts >>= λ m. name m >>= λ p. Some (node (form.Last p.0), 1, p.1))
-           (if starts Question ts then (word Question ts >>= λ m. name m >>= λ p. Some (node (form.Asked p.0), 1, p.1)) else r.single ts) (Some (x, 1, m)) (starts_no KwLast (Word Question) ts b.0 b.1 refl)
-          (if_yes (starts Question ts) (word Question ts >>= λ m. name m >>= λ p. Some (node (form.Asked p.0), 1, p.1)) (r.single ts) (Some (x, 1, m)) (starts_yes Question ts b.0 b.1)
-            (then_some (λ m. name m >>= λ p. Some (node (form.Asked p.0), 1, p.1)) (word Question ts) b.0 (Some (x, 1, m)) (word_reads Question ts b.0 b.1)
-              (then_some (λ p. Some (node (form.Asked p.0), 1, p.1)) (name b.0) (made.0, m) (Some (x, 1, m)) (name_reads made.0 b.0 m b.2) (λ i. Some (sym made.1 i, 1, m))))))
+      (if starts KwLast ts then (word KwLast ts >>= λ m. name m >>= λ p. Some (node (form.Last p.0), 1, p.1))
+      else if starts Question ts then (word Question ts >>= λ m. name m >>= λ p. Some (node (form.Asked p.0), 1, p.1))
+      else r.single ts) (Some (x, 1, m)) (starts_no ParenLeft (Word Question) ts b.0 b.1 refl)
+      (if_no (starts KwLast ts) (word KwLast ts >>= λ m. name m >>= λ p. Some (node (form.Last p.0), 1, p.1))
+      (if starts Question ts then (word Question ts >>= λ m. name m >>= λ p. Some (node (form.Asked p.0), 1, p.1)) else r.single ts) (Some (x, 1, m)) (starts_no KwLast (Word Question) ts b.0 b.1 refl)
+      (if_yes (starts Question ts) (word Question ts >>= λ m. name m >>= λ p. Some (node (form.Asked p.0), 1, p.1)) (r.single ts) (Some (x, 1, m)) (starts_yes Question ts b.0 b.1)
+      (then_some (λ m. name m >>= λ p. Some (node (form.Asked p.0), 1, p.1)) (word Question ts) b.0 (Some (x, 1, m)) (word_reads Question ts b.0 b.1)
+      (then_some (λ p. Some (node (form.Asked p.0), 1, p.1)) (name b.0) (made.0, m) (Some (x, 1, m)) (name_reads made.0 b.0 m b.2) (λ i. Some (sym made.1 i, 1, m))))))
 
   unit_found : (x : Tree) (ts m : List Token) → At (g.brackets (constant leaf.Unit)) x ts m → r.atom n R ts ≡ Some (x, 1, m)
   unfolding r.group
@@ -692,11 +724,11 @@ module _ (n d : ℕ) (small : suc d ≤ 200) (R : Level → Reader Tree) (ih : (
       let first : ts ≡ Word ParenLeft ∷ Word ParenRight ∷ m = a.1 ∙ ap (λ u. u ++ m) a.2.1 in
       let l = Word ParenRight ∷ m in
       parenthesised ts (Word ParenRight ∷ m) first (Some (x, 1, m))
-        (if_yes (starts ParenRight l) (word ParenRight l >>= λ m. Some (constant leaf.Unit, 1, m))
-          (if r.begins_call l then
-            (r.call n R l >>= λ x. if starts KwEvery x.2 then r.every n R x.0.0 x.0.1.0 x.0.1.1 x.1 x.2 else (applied x.0.0 x.0.1.0 x.0.1.1 >>= λ e. taller x.1 >>= λ h. r.climb n R n Expr Unary e h x.2 >>= λ y. r.group_from n R y.0 y.1 y.2))
-            else (R Expr l >>= λ y. r.group_from n R y.0 y.1 y.2)) (Some (x, 1, m)) (starts_yes ParenRight l m refl)
-          (then_some (λ m. Some (constant leaf.Unit, 1, m)) (word ParenRight l) m (Some (x, 1, m)) (word_reads ParenRight l m refl) (λ i. Some (sym a.2.0 i, 1, m))))
+      (if_yes (starts ParenRight l) (word ParenRight l >>= λ m. Some (constant leaf.Unit, 1, m))
+      (if r.begins_call l then
+      (r.call n R l >>= λ x. if starts KwEvery x.2 then r.every n R x.0.0 x.0.1.0 x.0.1.1 x.1 x.2 else (applied x.0.0 x.0.1.0 x.0.1.1 >>= λ e. taller x.1 >>= λ h. r.climb n R n Expr Unary e h x.2 >>= λ y. r.group_from n R y.0 y.1 y.2))
+      else (R Expr l >>= λ y. r.group_from n R y.0 y.1 y.2)) (Some (x, 1, m)) (starts_yes ParenRight l m refl)
+      (then_some (λ m. Some (constant leaf.Unit, 1, m)) (word ParenRight l) m (Some (x, 1, m)) (word_reads ParenRight l m refl) (λ i. Some (sym a.2.0 i, 1, m))))
 
   pub atom_found : (x : Tree) (ts m : List Token) → length ts ≤ n → At (g.rule (IsExpr d) Atom) x ts m → Found (r.atom n R) x ts m
   atom_found x ts m few a = which a.2
@@ -718,10 +750,13 @@ module _ (n d : ℕ) (small : suc d ≤ 200) (R : Level → Reader Tree) (ih : (
   unfolding r.named
   name_found f x ts m closed few is e =
       let a : At (identifier ⊗ many (IsExpr d Atom)) (f, []) ts m = (Id f ∷ [], is, (Id f ∷ [], [], refl, refl, refl)) in
-      let c = plain_call f [] ts m closed few a in
-      (c.0 + 1, suc_le c.0 d c.1, call_application ts c.3
-        ∙ then_some (λ x. applied x.0.0 x.0.1.0 x.0.1.1 >>= λ e. taller x.1 >>= λ h. Some (e, h, x.2)) (r.call n R ts) ((false, (f, [])), c.0, m) (Some (x, c.0 + 1, m)) c.2
-            (then_some (λ h. Some (node (form.Var f), h, m)) (taller c.0) (c.0 + 1) (Some (x, c.0 + 1, m)) (taller_reads c.0 d c.1 small) (λ i. Some (some_one (node (form.Var f)) x e i, c.0 + 1, m))))
+      let c = plain_call f [] ts m closed few a in (
+        c.0 + 1,
+        suc_le c.0 d c.1,
+        call_application ts c.3
+            ∙ then_some (λ x. applied x.0.0 x.0.1.0 x.0.1.1 >>= λ e. taller x.1 >>= λ h. Some (e, h, x.2)) (r.call n R ts) ((false, (f, [])), c.0, m) (Some (x, c.0 + 1, m)) c.2
+            (then_some (λ h. Some (node (form.Var f), h, m)) (taller c.0) (c.0 + 1) (Some (x, c.0 + 1, m)) (taller_reads c.0 d c.1 small) (λ i. Some (some_one (node (form.Var f)) x e i, c.0 + 1, m))),
+      )
 
   token_found : (t : Token) (x : Tree) (ts m : List Token) → r.begins_atom m ≡ false → length ts ≤ n → ts ≡ t ∷ m → simple t ≡ Some x → Found (r.application n R) x ts m
   unfolding r.application
@@ -781,13 +816,15 @@ module _ (n d : ℕ) (small : suc d ≤ 200) (R : Level → Reader Tree) (ih : (
 
   by_application : (x : Tree) (ts m : List Token) (t : Token) (l : List Token) → ts ≡ t ∷ l → Common t → Found (r.application n R) x ts m → OperandFound x ts m
   unfolding r.operand
-  by_application x ts m t l is c f =
-      (f.0, f.1,
-        if_no (starts Minus ts) (form_of (unary op.Neg) (behind Minus (R Unary)) ts)
-          (if starts KwNot ts then form_of (unary op.Not) (behind KwNot (R Unary)) ts else if starts KwPre ts then form_of previous (behind KwPre (R Unary)) ts else r.application n R ts) (Some (x, f.0, m)) (starts_no Minus t ts l is c.0)
-          (if_no (starts KwNot ts) (form_of (unary op.Not) (behind KwNot (R Unary)) ts) (if starts KwPre ts then form_of previous (behind KwPre (R Unary)) ts else r.application n R ts) (Some (x, f.0, m)) (starts_no KwNot t ts l is c.1)
-            (if_no (starts KwPre ts) (form_of previous (behind KwPre (R Unary)) ts) (r.application n R ts) (Some (x, f.0, m)) (starts_no KwPre t ts l is c.2) f.2)),
-        starts_no KwIf t ts l is c.3)
+  by_application x ts m t l is c f = (
+    f.0,
+    f.1,
+    if_no (starts Minus ts) (form_of (unary op.Neg) (behind Minus (R Unary)) ts)
+        (if starts KwNot ts then form_of (unary op.Not) (behind KwNot (R Unary)) ts else if starts KwPre ts then form_of previous (behind KwPre (R Unary)) ts else r.application n R ts) (Some (x, f.0, m)) (starts_no Minus t ts l is c.0)
+        (if_no (starts KwNot ts) (form_of (unary op.Not) (behind KwNot (R Unary)) ts) (if starts KwPre ts then form_of previous (behind KwPre (R Unary)) ts else r.application n R ts) (Some (x, f.0, m)) (starts_no KwNot t ts l is c.1)
+        (if_no (starts KwPre ts) (form_of previous (behind KwPre (R Unary)) ts) (r.application n R ts) (Some (x, f.0, m)) (starts_no KwPre t ts l is c.2) f.2)),
+    starts_no KwIf t ts l is c.3,
+  )
 
   quiet_unary : (m : List Token) → r.begins_atom m ≡ false → Quiet Unary m
   quiet_unary m closed = (closed, λ p e. let f = infix_first m p e in let b = between_at f.0 p.0 f.2 in less (rank (level_of p.0)) b.1)
@@ -804,29 +841,38 @@ module _ (n d : ℕ) (small : suc d ≤ 200) (R : Level → Reader Tree) (ih : (
           let at : At ((Minus ▷ IsExpr d Unary) ⇒ unary op.Neg) x ts m = (a.0, a.1, b) in
           let made = of_made (Minus ▷ IsExpr d Unary) (unary op.Neg) x ts m at in
           let w = of_word (IsExpr d Unary) Minus made.0 ts m made.2 in
-          let f = (sure_form (unary op.Neg) small (sure_behind Minus (ih Unary))).finds ts m x few (quiet_unary m closed) at in
-          (f.0, f.1, if_yes (starts Minus ts) (form_of (unary op.Neg) (behind Minus (R Unary)) ts)
-            (if starts KwNot ts then form_of (unary op.Not) (behind KwNot (R Unary)) ts else if starts KwPre ts then form_of previous (behind KwPre (R Unary)) ts else r.application n R ts) (Some (x, f.0, m)) (starts_yes Minus ts w.0 w.1) f.2,
-            starts_no KwIf (Word Minus) ts w.0 w.1 refl)
+          let f = (sure_form (unary op.Neg) small (sure_behind Minus (ih Unary))).finds ts m x few (quiet_unary m closed) at in (
+            f.0,
+            f.1,
+            if_yes (starts Minus ts) (form_of (unary op.Neg) (behind Minus (R Unary)) ts)
+                (if starts KwNot ts then form_of (unary op.Not) (behind KwNot (R Unary)) ts else if starts KwPre ts then form_of previous (behind KwPre (R Unary)) ts else r.application n R ts) (Some (x, f.0, m)) (starts_yes Minus ts w.0 w.1) f.2,
+            starts_no KwIf (Word Minus) ts w.0 w.1 refl,
+          )
       which (inr (inl b)) =
           let at : At ((KwNot ▷ IsExpr d Unary) ⇒ unary op.Not) x ts m = (a.0, a.1, b) in
           let made = of_made (KwNot ▷ IsExpr d Unary) (unary op.Not) x ts m at in
           let w = of_word (IsExpr d Unary) KwNot made.0 ts m made.2 in
-          let f = (sure_form (unary op.Not) small (sure_behind KwNot (ih Unary))).finds ts m x few (quiet_unary m closed) at in
-          (f.0, f.1, if_no (starts Minus ts) (form_of (unary op.Neg) (behind Minus (R Unary)) ts)
-            (if starts KwNot ts then form_of (unary op.Not) (behind KwNot (R Unary)) ts else if starts KwPre ts then form_of previous (behind KwPre (R Unary)) ts else r.application n R ts) (Some (x, f.0, m)) (starts_no Minus (Word KwNot) ts w.0 w.1 refl)
-            (if_yes (starts KwNot ts) (form_of (unary op.Not) (behind KwNot (R Unary)) ts) (if starts KwPre ts then form_of previous (behind KwPre (R Unary)) ts else r.application n R ts) (Some (x, f.0, m)) (starts_yes KwNot ts w.0 w.1) f.2),
-            starts_no KwIf (Word KwNot) ts w.0 w.1 refl)
+          let f = (sure_form (unary op.Not) small (sure_behind KwNot (ih Unary))).finds ts m x few (quiet_unary m closed) at in (
+            f.0,
+            f.1,
+            if_no (starts Minus ts) (form_of (unary op.Neg) (behind Minus (R Unary)) ts)
+                (if starts KwNot ts then form_of (unary op.Not) (behind KwNot (R Unary)) ts else if starts KwPre ts then form_of previous (behind KwPre (R Unary)) ts else r.application n R ts) (Some (x, f.0, m)) (starts_no Minus (Word KwNot) ts w.0 w.1 refl)
+                (if_yes (starts KwNot ts) (form_of (unary op.Not) (behind KwNot (R Unary)) ts) (if starts KwPre ts then form_of previous (behind KwPre (R Unary)) ts else r.application n R ts) (Some (x, f.0, m)) (starts_yes KwNot ts w.0 w.1) f.2),
+            starts_no KwIf (Word KwNot) ts w.0 w.1 refl,
+          )
       which (inr (inr b)) =
           let at : At ((KwPre ▷ IsExpr d Unary) ⇒ previous) x ts m = (a.0, a.1, b) in
           let made = of_made (KwPre ▷ IsExpr d Unary) previous x ts m at in
           let w = of_word (IsExpr d Unary) KwPre made.0 ts m made.2 in
-          let f = (sure_form previous small (sure_behind KwPre (ih Unary))).finds ts m x few (quiet_unary m closed) at in
-          (f.0, f.1, if_no (starts Minus ts) (form_of (unary op.Neg) (behind Minus (R Unary)) ts)
-            (if starts KwNot ts then form_of (unary op.Not) (behind KwNot (R Unary)) ts else if starts KwPre ts then form_of previous (behind KwPre (R Unary)) ts else r.application n R ts) (Some (x, f.0, m)) (starts_no Minus (Word KwPre) ts w.0 w.1 refl)
-            (if_no (starts KwNot ts) (form_of (unary op.Not) (behind KwNot (R Unary)) ts) (if starts KwPre ts then form_of previous (behind KwPre (R Unary)) ts else r.application n R ts) (Some (x, f.0, m)) (starts_no KwNot (Word KwPre) ts w.0 w.1 refl)
-              (if_yes (starts KwPre ts) (form_of previous (behind KwPre (R Unary)) ts) (r.application n R ts) (Some (x, f.0, m)) (starts_yes KwPre ts w.0 w.1) f.2)),
-            starts_no KwIf (Word KwPre) ts w.0 w.1 refl)
+          let f = (sure_form previous small (sure_behind KwPre (ih Unary))).finds ts m x few (quiet_unary m closed) at in (
+            f.0,
+            f.1,
+            if_no (starts Minus ts) (form_of (unary op.Neg) (behind Minus (R Unary)) ts)
+                (if starts KwNot ts then form_of (unary op.Not) (behind KwNot (R Unary)) ts else if starts KwPre ts then form_of previous (behind KwPre (R Unary)) ts else r.application n R ts) (Some (x, f.0, m)) (starts_no Minus (Word KwPre) ts w.0 w.1 refl)
+                (if_no (starts KwNot ts) (form_of (unary op.Not) (behind KwNot (R Unary)) ts) (if starts KwPre ts then form_of previous (behind KwPre (R Unary)) ts else r.application n R ts) (Some (x, f.0, m)) (starts_no KwNot (Word KwPre) ts w.0 w.1 refl)
+                (if_yes (starts KwPre ts) (form_of previous (behind KwPre (R Unary)) ts) (r.application n R ts) (Some (x, f.0, m)) (starts_yes KwPre ts w.0 w.1) f.2)),
+            starts_no KwIf (Word KwPre) ts w.0 w.1 refl,
+          )
 
   -- what stands right of an operator
 
@@ -838,10 +884,12 @@ module _ (n d : ℕ) (small : suc d ≤ 200) (R : Level → Reader Tree) (ih : (
   right_found l make f e h ts m low few follow a =
       let made = of_made (IsExpr d l) make f ts m a in
       let c = (ih l).finds ts m made.0 few follow made.2 in
-      let high = max_le h c.0 d low c.1 in
-      (max h c.0 + 1, suc_le (max h c.0) d high,
+      let high = max_le h c.0 d low c.1 in (
+        max h c.0 + 1,
+        suc_le (max h c.0) d high,
         then_some (λ y. taller (max h y.1) >>= λ k. Some (make y.0 e, k, y.2)) (R l ts) (made.0, c.0, m) (Some (f e, max h c.0 + 1, m)) c.2
-          (then_some (λ k. Some (make made.0 e, k, m)) (taller (max h c.0)) (max h c.0 + 1) (Some (f e, max h c.0 + 1, m)) (taller_reads (max h c.0) d high small) (λ i. Some (sym made.1 i e, max h c.0 + 1, m))))
+            (then_some (λ k. Some (make made.0 e, k, m)) (taller (max h c.0)) (max h c.0 + 1) (Some (f e, max h c.0 + 1, m)) (taller_reads (max h c.0) d high small) (λ i. Some (sym made.1 i e, max h c.0 + 1, m))),
+      )
 
   condition_found : (c : Name × Case) (ts m : List Token) → At g.condition c ts m → r.condition ts ≡ Some (c, m)
   unfolding r.condition
@@ -856,8 +904,8 @@ module _ (n d : ℕ) (small : suc d ≤ 200) (R : Level → Reader Tree) (ih : (
           let v = of_end identifier ParenRight b.0.1 w.0 m w.2 in
           ap r.condition first
           ∙ then_some (λ m. name m >>= λ p. word ParenRight p.1 >>= λ m. Some ((p.0, case.Of b.0.0), m)) (word ParenLeft e.0) w.0 (Some (c, m)) (word_reads ParenLeft e.0 w.0 w.1)
-              (then_some (λ p. word ParenRight p.1 >>= λ m. Some ((p.0, case.Of b.0.0), m)) (name w.0) (b.0.1, Word ParenRight ∷ m) (Some (c, m)) (name_reads b.0.1 w.0 (Word ParenRight ∷ m) v)
-                (then_some (λ m. Some ((b.0.1, case.Of b.0.0), m)) (word ParenRight (Word ParenRight ∷ m)) m (Some (c, m)) (word_reads ParenRight (Word ParenRight ∷ m) m refl) (λ i. Some (sym b.1 i, m))))
+          (then_some (λ p. word ParenRight p.1 >>= λ m. Some ((p.0, case.Of b.0.0), m)) (name w.0) (b.0.1, Word ParenRight ∷ m) (Some (c, m)) (name_reads b.0.1 w.0 (Word ParenRight ∷ m) v)
+          (then_some (λ m. Some ((b.0.1, case.Of b.0.0), m)) (word ParenRight (Word ParenRight ∷ m)) m (Some (c, m)) (word_reads ParenRight (Word ParenRight ∷ m) m refl) (λ i. Some (sym b.1 i, m))))
 
   pub suffix_found : (o : Infix) (f : Tree → Tree) (e : Tree) (h : ℕ) (ts m : List Token) → h ≤ d → length ts ≤ n → Ready o m → At (g.operand (IsExpr d) o) f ts m
       → (k : ℕ) × (k ≤ suc d) × (r.suffix n R o e h ts ≡ Some (f e, k, m))
@@ -866,15 +914,19 @@ module _ (n d : ℕ) (small : suc d ≤ 200) (R : Level → Reader Tree) (ih : (
   suffix_found between.Fby f e h ts m low few ready a = right_found Delay (λ y x. node (form.Fby x y)) f e h ts m low few ready a
   suffix_found (between.Binary l o) f e h ts m low few ready a = right_found (right l) (λ y x. binary o x y) f e h ts m low few ready a
   suffix_found between.When f e h ts m low few ready a =
-      let made = of_made g.condition (λ c x. node (form.When x c.0 c.1)) f ts m a in
-      (h + 1, suc_le h d low,
+      let made = of_made g.condition (λ c x. node (form.When x c.0 c.1)) f ts m a in (
+        h + 1,
+        suc_le h d low,
         then_some (λ c. taller h >>= λ k. Some (node (form.When e c.0.0 c.0.1), k, c.1)) (r.condition ts) (made.0, m) (Some (f e, h + 1, m)) (condition_found made.0 ts m made.2)
-          (then_some (λ k. Some (node (form.When e made.0.0 made.0.1), k, m)) (taller h) (h + 1) (Some (f e, h + 1, m)) (taller_reads h d low small) (λ i. Some (sym made.1 i e, h + 1, m))))
+            (then_some (λ k. Some (node (form.When e made.0.0 made.0.1), k, m)) (taller h) (h + 1) (Some (f e, h + 1, m)) (taller_reads h d low small) (λ i. Some (sym made.1 i e, h + 1, m))),
+      )
   suffix_found between.Whenot f e h ts m low few ready a =
-      let made = of_made identifier (λ c x. node (form.When x c case.False)) f ts m a in
-      (h + 1, suc_le h d low,
+      let made = of_made identifier (λ c x. node (form.When x c case.False)) f ts m a in (
+        h + 1,
+        suc_le h d low,
         then_some (λ c. taller h >>= λ k. Some (node (form.When e c.0 case.False), k, c.1)) (name ts) (made.0, m) (Some (f e, h + 1, m)) (name_reads made.0 ts m made.2)
-          (then_some (λ k. Some (node (form.When e made.0 case.False), k, m)) (taller h) (h + 1) (Some (f e, h + 1, m)) (taller_reads h d low small) (λ i. Some (sym made.1 i e, h + 1, m))))
+            (then_some (λ k. Some (node (form.When e made.0 case.False), k, m)) (taller h) (h + 1) (Some (f e, h + 1, m)) (taller_reads h d low small) (λ i. Some (sym made.1 i e, h + 1, m))),
+      )
 
 -- operators
 
@@ -1017,10 +1069,13 @@ limit_below App a c l1 l2 l3 l4 = omega arith
 limit_below Atom a c l1 l2 l3 l4 = omega arith
 
 quiet_stop : (l own : Level) → rank l ≤ rank own → (m : List Token) → Quiet l m → Stop own m
-quiet_stop l own le m q = (q.0, λ p e.
-    let f = infix_first m p e in
-    let b = between_at f.0 p.0 f.2 in
-    limit_below own (rank (level_of p.0)) (rank l) (q.1 p e) le b.0 b.1)
+quiet_stop l own le m q = (
+  q.0,
+  λ p e.
+      let f = infix_first m p e in
+      let b = between_at f.0 p.0 f.2 in
+      limit_below own (rank (level_of p.0)) (rank l) (q.1 p e) le b.0 b.1,
+)
 
 app_or_atom : (k : Level) → 10 ≤ rank k → (k ≡ App) ⊎ (k ≡ Atom)
 app_or_atom App le = inl refl
@@ -1035,19 +1090,20 @@ infix_reads w o ts m is e = ap r.infix_at is ∙ ap (λ q. q >>= λ o. Some (o, 
 step_once : (n : ℕ) (R : Level → Reader Tree) (least from next : Level) (o : Infix) (e x : Tree) (h k : ℕ) (ts l m : List Token) → length l + 1 ≤ length ts → length m ≤ length l → r.infix_at ts ≡ Some (o, l) → r.goes_on least from o ≡ true
     → r.suffix n R o e h l ≡ Some (x, k, m) → level_of o ≡ next → (j : ℕ) → length ts ≤ j → (i : ℕ) × (length m ≤ i) × (r.climb n R j least from e h ts ≡ r.climb n R i least next x k m)
 step_once n R least from next o e x h k ts l m one two found go read is zero few = absurd (omega arith)
-step_once n R least from next o e x h k ts l m one two found go read is (suc j) few =
-    (j, omega arith,
-      ap (λ p. unwrap_or (option_map (λ p. if r.goes_on least from p.0 then (r.suffix n R p.0 e h p.1 >>= λ x. r.climb n R j least (level_of p.0) x.0 x.1 x.2) else Some (e, h, ts)) p) (Some (e, h, ts))) found
+step_once n R least from next o e x h k ts l m one two found go read is (suc j) few = (
+  j,
+  omega arith,
+  ap (λ p. unwrap_or (option_map (λ p. if r.goes_on least from p.0 then (r.suffix n R p.0 e h p.1 >>= λ x. r.climb n R j least (level_of p.0) x.0 x.1 x.2) else Some (e, h, ts)) p) (Some (e, h, ts))) found
       ∙ if_yes (r.goes_on least from o) (r.suffix n R o e h l >>= λ x. r.climb n R j least (level_of o) x.0 x.1 x.2) (Some (e, h, ts)) (r.climb n R j least (level_of o) x k m) go
-          (then_some (λ x. r.climb n R j least (level_of o) x.0 x.1 x.2) (r.suffix n R o e h l) (x, k, m) (r.climb n R j least (level_of o) x k m) read refl)
-      ∙ (λ i. r.climb n R j least (is i) x k m))
+      (then_some (λ x. r.climb n R j least (level_of o) x.0 x.1 x.2) (r.suffix n R o e h l) (x, k, m) (r.climb n R j least (level_of o) x k m) read refl)
+      ∙ (λ i. r.climb n R j least (is i) x k m),
+)
 
 module _ (n d : ℕ) (small : suc d ≤ 200) (R : Level → Reader Tree) (ih : (l : Level) → Sure Tree n d (R l) (IsExpr d l) (Follow l)) (inner : Sure Tree n d (r.phrase n R Expr) (IsExpr d Expr) (Quiet Expr))
     (before : (l : Level) (x : Tree) (ts m : List Token) → 1 ≤ rank l → length ts ≤ n → At (IsExpr d l) x ts m → Climbs n R d l x ts m) where
   operand_climbed : (k : Level) → behind_level k ≡ Unary → (x : Tree) (ts m : List Token) → length m ≤ n → OperandFound n d small R ih inner x ts m → (least : Level) → Climbed n R (suc d) k x ts m least
   operand_climbed k is x ts m few f least =
       (f.0, f.1, n, few, f.3, then_some (λ y. r.climb n R n least Unary y.0 y.1 y.2) (r.operand n R ts) (x, f.0, m) (r.climb n R n least (behind_level k) x f.0 m) f.2 (λ i. r.climb n R n least (sym is i) x f.0 m))
-
 
   operation_climbs : (k : Level) → 1 ≤ rank k → rank k ≤ 8 → (x : Tree) (ts m : List Token) → length ts ≤ n → At (g.operation (IsExpr d) k) x ts m → Stop k m → (least : Level) → rank least ≤ rank k → rank least ≤ 9 → Climbed n R (suc d) k x ts m least
   unfolding r.begins_atom
@@ -1065,9 +1121,12 @@ module _ (n d : ℕ) (small : suc d ≤ 200) (R : Level → Reader Tree) (ih : (
       let k1 = before_left.0 in
       let found = infix_reads w o b.0 c.0 c.1 is in
       let edge : rank k < limit_of k1 = within_limit k1 (rank k) (rank (left k)) before_left.1 facts.0 high facts.2 facts.3 facts.4 in
-      let stop1 : Stop k1 b.0 = (ap r.begins_atom c.1 ∙ closed_infix w o is, λ q e.
-          let same = some_one (o, c.0) q (sym found ∙ e) in
-          subst (λ l. rank l < limit_of k1) (sym lev ∙ (λ i. level_of (same i).0)) edge) in
+      let stop1 : Stop k1 b.0 = (
+        ap r.begins_atom c.1 ∙ closed_infix w o is,
+        λ q e.
+            let same = some_one (o, c.0) q (sym found ∙ e) in
+            subst (λ l. rank l < limit_of k1) (sym lev ∙ (λ i. level_of (same i).0)) edge,
+      ) in
       let up : rank k ≤ rank k1 = le_trans (rank k) (rank (left k)) (rank k1) facts.0 before_left.1 in
       let climbed = before_left.3 stop1 least (le_trans (rank least) (rank k) (rank k1) le up) nine in
       let l1 = one_longer (Word w) b.0 c.0 c.1 in
@@ -1087,11 +1146,11 @@ module _ (n d : ℕ) (small : suc d ≤ 200) (R : Level → Reader Tree) (ih : (
   rule_climbs App low x ts m few a stop least le nine =
       let f = app_first n d small R ih inner (IsExpr d) x a.0 a.2 in
       operand_climbed App refl x ts m (le_trans (length m) (length ts) n (not_longer (g.rule (IsExpr d) App) x ts m a) few)
-        (by_application n d small R ih inner x ts m f.0 (f.1 ++ m) (a.1 ∙ ap (λ u. u ++ m) f.2) f.3 (application_found n d small R ih inner x ts m stop.0 few a)) least
+      (by_application n d small R ih inner x ts m f.0 (f.1 ++ m) (a.1 ∙ ap (λ u. u ++ m) f.2) f.3 (application_found n d small R ih inner x ts m stop.0 few a)) least
   rule_climbs Atom low x ts m few a stop least le nine =
       let f = atom_first (IsExpr d) x a.0 a.2 in
       operand_climbed Atom refl x ts m (le_trans (length m) (length ts) n (not_longer (g.rule (IsExpr d) Atom) x ts m a) few)
-        (by_application n d small R ih inner x ts m f.0 (f.1 ++ m) (a.1 ∙ ap (λ u. u ++ m) f.2) (opening_common n d small R ih inner f.0 f.3) (loose_atom n d small R ih inner x ts m stop.0 few a)) least
+      (by_application n d small R ih inner x ts m f.0 (f.1 ++ m) (a.1 ∙ ap (λ u. u ++ m) f.2) (opening_common n d small R ih inner f.0 f.3) (loose_atom n d small R ih inner x ts m stop.0 few a)) least
   rule_climbs k low x ts m few a stop least le nine = operation_climbs k low (omega arith) x ts m few a stop least le nine
 
   climb_all : (l : Level) → rank l ≤ 9 → (own : Level) → rank l ≤ rank own → 1 ≤ rank own → (x : Tree) (ts m : List Token) → length ts ≤ n → At (g.rule (IsExpr d) own) x ts m → Quiet l m
@@ -1123,8 +1182,9 @@ module _ (n d : ℕ) (small : suc d ≤ 200) (R : Level → Reader Tree) (ih : (
 
   app_level : (x : Tree) (ts m : List Token) → length ts ≤ n → (own : Level) → 10 ≤ rank own → At (g.rule (IsExpr d) own) x ts m → Quiet App m → Found n d small R ih inner (r.application n R) x ts m
   app_level x ts m few own le a quiet = elim (app_or_atom own le) [
-      inl e ↦ application_found n d small R ih inner x ts m quiet.0 few (subst (λ k. At (g.rule (IsExpr d) k) x ts m) e a)
-    | inr e ↦ loose_atom n d small R ih inner x ts m quiet.0 few (subst (λ k. At (g.rule (IsExpr d) k) x ts m) e a) ]
+    | inl e ↦ application_found n d small R ih inner x ts m quiet.0 few (subst (λ k. At (g.rule (IsExpr d) k) x ts m) e a)
+    | inr e ↦ loose_atom n d small R ih inner x ts m quiet.0 few (subst (λ k. At (g.rule (IsExpr d) k) x ts m) e a)
+  ]
 
   pub phrase_sure : (l : Level) → Sure Tree n (suc d) (r.phrase n R l) (IsExpr (suc d) l) (Follow l)
   unfolding r.phrase

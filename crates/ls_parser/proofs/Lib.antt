@@ -1,3 +1,4 @@
+pub mod Exact
 pub mod Files
 pub mod FindDefs
 pub mod FindEqs
