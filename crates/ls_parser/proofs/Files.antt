@@ -1,5 +1,5 @@
 -- One turn of the loop over the definitions of a file.
-use Rattle.std.proofs.Common.{◌≡◌, ℕ, zero, suc, ◌+◌, ◌-◌, ◌<◌, ◌≤◌, List, [], ◌∷◌, ◌++◌, Option, Some, None, Result, Ok, Err, map, drop, length, refl, sym, ◌∙◌, ap, subst, arith, length-drop, unwrap_or, min}
+use Rattle.std.proofs.Common.{◌≡◌, ℕ, suc, ◌+◌, ◌-◌, ◌<◌, ◌≤◌, List, [], ◌∷◌, ◌++◌, Option, Some, None, Result, Ok, Err, map, drop, length, refl, sym, ◌∙◌, ap, arith, length-drop, unwrap_or, min}
 use Rattle.std.specs.Prelude.{option_map}
 use Rattle.ls_ast.specs.declared.tree.DefOf.{DefOf}
 use Rattle.ls_ast.specs.declared.tree.Plain.{Plain}

@@ -1,5 +1,5 @@
 -- Phrases at the front of tokens: how they come from their parts, and how what was read is taken apart.
-use Rattle.std.proofs.Common.{◌≡◌, ℕ, zero, suc, ◌+◌, ◌-◌, ◌<◌, ◌≤◌, ◌⊎◌, inl, inr, Bool, true, false, List, [], ◌∷◌, ◌++◌, Option, Some, None, max, refl, sym, ◌∙◌, ap, subst, arith, append_assoc, if◌then◌else◌, option_and_then}
+use Rattle.std.proofs.Common.{◌≡◌, ℕ, zero, suc, ◌+◌, ◌≤◌, ◌⊎◌, inl, inr, Bool, true, false, List, [], ◌∷◌, ◌++◌, Option, Some, None, max, refl, sym, ◌∙◌, ap, subst, arith, append_assoc, if◌then◌else◌}
 use Rattle.std.specs.Prelude.{nat_lt}
 use denote.Enum.Bare.{same_true}
 use Rattle.ls_base.specs.declared.Name.{Name}
@@ -7,8 +7,8 @@ use Rattle.ls_lexer.specs.contracts.token.Fixed.{the_type}
 use Rattle.ls_lexer.specs.declared.token.Fixed.{Fixed}
 use Rattle.ls_lexer.specs.declared.token.Token.{Token}
 use Rattle.ls_lexer.specs.declared.token.Token.TheVariants.{Fixed as Word, Id, Cons, Int, Char, Text, Prefix}
-use Rattle.ls_parser.specs.Notation.{Phrase, ◌▷◌, ◌◁◌, ◌⊗◌, ◌⇒◌, ◌or◌, many, some, separated, maybe, after, identifier, constructor}
-use Rattle.ls_parser.specs.Reading.{Reader, ◌>>=◌, uncons, same, is_word, starts, word, name, constructor as constructor_read, name_of, constructor_of, taller, behind, both, form_of, collect}
+use Rattle.ls_parser.specs.Notation.{Phrase, ◌▷◌, ◌◁◌, ◌⊗◌, ◌⇒◌, ◌or◌, many, separated, identifier, constructor}
+use Rattle.ls_parser.specs.Reading.{Reader, ◌>>=◌, uncons, is_word, word, name, constructor as constructor_read, name_of, constructor_of, taller, behind, both, form_of, collect}
 
 -- a phrase stands at the front, before what is left
 abbrev pub At : {A : Type 0} → Phrase A → A → List Token → List Token → Type 0

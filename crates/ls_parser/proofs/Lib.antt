@@ -1,4 +1,8 @@
+pub mod Exact
 pub mod Files
+pub mod FindDefs
+pub mod FindEqs
+pub mod FindExpr
 pub mod Front
 pub mod Loops
 pub mod Parts

@@ -1,5 +1,5 @@
 -- One turn of a loop that reads a row of phrases, or of one that reads operators.
-use Rattle.std.proofs.Common.{◌≡◌, ℕ, zero, suc, ◌+◌, ◌-◌, ◌<◌, ◌≤◌, Bool, true, false, List, [], ◌∷◌, ◌++◌, Option, Some, None, max, refl, sym, ◌∙◌, ap, subst, arith, if◌then◌else◌, option_and_then, unwrap_or}
+use Rattle.std.proofs.Common.{◌≡◌, ℕ, suc, ◌+◌, ◌-◌, ◌<◌, Bool, true, List, [], ◌∷◌, ◌++◌, Option, Some, max, refl, sym, ◌∙◌, ap, arith, if◌then◌else◌, unwrap_or}
 use Rattle.std.specs.Option.{option_map}
 use Rattle.ls_ast.specs.declared.tree.Equation.{Equation}
 use Rattle.ls_ast.specs.declared.tree.Guard.{Guard}

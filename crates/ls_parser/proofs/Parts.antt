@@ -1,5 +1,5 @@
 -- Phrases at the front of tokens are taken apart, and their parts are read.
-use Rattle.std.proofs.Common.{◌≡◌, ℕ, zero, suc, ◌+◌, ◌-◌, ◌<◌, ◌≤◌, ◌⊎◌, inl, inr, Bool, true, false, List, [], ◌∷◌, ◌++◌, Option, Some, None, max, length, length-append, refl, sym, ◌∙◌, ap, subst, arith, append_assoc, if◌then◌else◌, option_and_then}
+use Rattle.std.proofs.Common.{◌≡◌, ℕ, zero, suc, ◌+◌, ◌<◌, ◌≤◌, ◌⊎◌, inl, inr, Bool, true, false, List, [], ◌∷◌, ◌++◌, Option, Some, None, max, length, length-append, refl, sym, ◌∙◌, ap, subst, arith, append_assoc, if◌then◌else◌}
 use Rattle.std.specs.Prelude.{nat_lt}
 use Rattle.std.proofs.lemmas.Bool.{lt-ltb}
 use denote.Enum.Bare.{true_same}
@@ -7,10 +7,10 @@ use Rattle.ls_base.specs.declared.Name.{Name}
 use Rattle.ls_lexer.specs.contracts.token.Fixed.{the_type}
 use Rattle.ls_lexer.specs.declared.token.Fixed.{Fixed}
 use Rattle.ls_lexer.specs.declared.token.Token.{Token}
-use Rattle.ls_lexer.specs.declared.token.Token.TheVariants.{Fixed as Word, Id, Cons}
-use Rattle.ls_parser.specs.Notation.{Phrase, ◌▷◌, ◌◁◌, ◌⊗◌, ◌⇒◌, ◌or◌, many, some, separated, maybe, after, identifier, constructor}
-use Rattle.ls_parser.specs.Reading.{Reader, ◌>>=◌, uncons, same, is_word, starts, word, name, constructor as constructor_read, taller, behind, both, form_of, collect}
-use Rattle.ls_parser.proofs.Front.{At, append_nil, Got, le_refl, le_trans, true_false, none_some}
+use Rattle.ls_lexer.specs.declared.token.Token.TheVariants.{Fixed as Word}
+use Rattle.ls_parser.specs.Notation.{Phrase, ◌▷◌, ◌◁◌, ◌⊗◌, ◌⇒◌, many, identifier, constructor}
+use Rattle.ls_parser.specs.Reading.{Reader, ◌>>=◌, is_word, starts, word, name, constructor as constructor_read, taller, behind, both, form_of, collect}
+use Rattle.ls_parser.proofs.Front.{At, append_nil, le_trans}
 
 module _ {A : Type 0} where
   pub of_word : (p : Phrase A) (w : Fixed) (x : A) (ts r : List Token) → At (w ▷ p) x ts r → (m : List Token) × (ts ≡ Word w ∷ m) × At p x m r
@@ -85,28 +85,38 @@ pub record Sure (A : Type 0) (n D : ℕ) (r : Reader A) (p : Phrase A) (F : List
   pub finds : (ts m : List Token) (x : A) → length ts ≤ n → F m → At p x ts m → (h : ℕ) × (h ≤ D) × (r ts ≡ Some (x, h, m))
 
 pub sure_behind : {A : Type 0} {n D : ℕ} {r : Reader A} {p : Phrase A} {F : List Token → Type 0} (w : Fixed) → Sure A n D r p F → Sure A n D (behind w r) (w ▷ p) F
-sure_behind {A} {n} {D} {r} {p} {F} w s = record { finds = λ ts m x few follow a.
-    let b = of_word p w x ts m a in
-    let c = s.finds b.0 m x (le_trans (length b.0) (length ts) n (let e = one_longer (Word w) ts b.0 b.1 in omega arith) few) follow b.2 in
-    (c.0, c.1, then_some r (word w ts) b.0 (Some (x, c.0, m)) (word_reads w ts b.0 b.1) c.2) }
+sure_behind {A} {n} {D} {r} {p} {F} w s = record {
+  finds = λ ts m x few follow a.
+      let b = of_word p w x ts m a in
+      let c = s.finds b.0 m x (le_trans (length b.0) (length ts) n (let e = one_longer (Word w) ts b.0 b.1 in omega arith) few) follow b.2 in
+      (c.0, c.1, then_some r (word w ts) b.0 (Some (x, c.0, m)) (word_reads w ts b.0 b.1) c.2);
+}
 
 pub sure_both : {A B : Type 0} {n D : ℕ} {r : Reader A} {s : Reader B} {p : Phrase A} {q : Phrase B} {F G : List Token → Type 0} → Sure A n D r p F → Sure B n D s q G
     → ((x : B) (ts m : List Token) → At q x ts m → F ts) → Sure (A × B) n D (both r s) (p ⊗ q) G
-sure_both {A} {B} {n} {D} {r} {s} {p} {q} {F} {G} f g next = record { finds = λ ts m x few follow a.
-    let b = of_both p q x ts m a in
-    let c = f.finds ts b.0 x.0 few (next x.1 b.0 m b.2) b.1 in
-    let d = g.finds b.0 m x.1 (le_trans (length b.0) (length ts) n (not_longer p x.0 ts b.0 b.1) few) follow b.2 in
-    (max c.0 d.0, max_le c.0 d.0 D c.1 d.1,
-      then_some (λ x. s x.2 >>= λ y. Some ((x.0, y.0), max x.1 y.1, y.2)) (r ts) (x.0, c.0, b.0) (Some (x, max c.0 d.0, m)) c.2
-        (then_some (λ y. Some ((x.0, y.0), max c.0 y.1, y.2)) (s b.0) (x.1, d.0, m) (Some (x, max c.0 d.0, m)) d.2 refl)) }
+sure_both {A} {B} {n} {D} {r} {s} {p} {q} {F} {G} f g next = record {
+  finds = λ ts m x few follow a.
+      let b = of_both p q x ts m a in
+      let c = f.finds ts b.0 x.0 few (next x.1 b.0 m b.2) b.1 in
+      let d = g.finds b.0 m x.1 (le_trans (length b.0) (length ts) n (not_longer p x.0 ts b.0 b.1) few) follow b.2 in (
+        max c.0 d.0,
+        max_le c.0 d.0 D c.1 d.1,
+        then_some (λ x. s x.2 >>= λ y. Some ((x.0, y.0), max x.1 y.1, y.2)) (r ts) (x.0, c.0, b.0) (Some (x, max c.0 d.0, m)) c.2
+            (then_some (λ y. Some ((x.0, y.0), max c.0 y.1, y.2)) (s b.0) (x.1, d.0, m) (Some (x, max c.0 d.0, m)) d.2 refl),
+      );
+}
 
 pub sure_form : {A B : Type 0} {n D : ℕ} {r : Reader A} {p : Phrase A} {F : List Token → Type 0} (f : A → B) → suc D ≤ 200 → Sure A n D r p F → Sure B n (suc D) (form_of f r) (p ⇒ f) F
-sure_form {A} {B} {n} {D} {r} {p} {F} f small s = record { finds = λ ts m y few follow a.
-    let b = of_made p f y ts m a in
-    let c = s.finds ts m b.0 few follow b.2 in
-    (c.0 + 1, suc_le c.0 D c.1,
-      then_some (λ x. taller x.1 >>= λ h. Some (f x.0, h, x.2)) (r ts) (b.0, c.0, m) (Some (y, c.0 + 1, m)) c.2
-        (then_some (λ h. Some (f b.0, h, m)) (taller c.0) (c.0 + 1) (Some (y, c.0 + 1, m)) (taller_reads c.0 D c.1 small) (λ i. Some (sym b.1 i, c.0 + 1, m)))) }
+sure_form {A} {B} {n} {D} {r} {p} {F} f small s = record {
+  finds = λ ts m y few follow a.
+      let b = of_made p f y ts m a in
+      let c = s.finds ts m b.0 few follow b.2 in (
+        c.0 + 1,
+        suc_le c.0 D c.1,
+        then_some (λ x. taller x.1 >>= λ h. Some (f x.0, h, x.2)) (r ts) (b.0, c.0, m) (Some (y, c.0 + 1, m)) c.2
+            (then_some (λ h. Some (f b.0, h, m)) (taller c.0) (c.0 + 1) (Some (y, c.0 + 1, m)) (taller_reads c.0 D c.1 small) (λ i. Some (sym b.1 i, c.0 + 1, m))),
+      );
+}
 
 -- A row of phrases is found: each of them begins as the test says, and is followed as F says by the next one and by what stands behind the row.
 module _ {A : Type 0} (n D : ℕ) (test : List Token → Bool) (r : Reader A) (p : Phrase A) (F : List Token → Type 0) (s : Sure A n D r p F)
@@ -120,18 +130,24 @@ module _ {A : Type 0} (n D : ℕ) (test : List Token → Bool) (r : Reader A) (p
   row_found zero done [] g ts m le stop low few follow a = (g, low, (λ i. Some (sym (append_nil done) i, g, of_none p ts m a i)))
   row_found zero done (x ∷ xs) g ts m le stop low few follow a = absurd (let e : length (x ∷ xs) ≡ length xs + 1 = omega arith in omega arith)
   row_found (suc k) done [] g ts m le stop low few follow a =
-      let no : test m ≡ false = elim stop [ inl e ↦ absurd (omega arith) | inr e ↦ e ] in
-      (g, low, if_no (test ts) (r ts >>= λ x. collect k test r (done ++ x.0 ∷ []) (max g x.1) x.2) (Some (done, g, ts)) (Some (done ++ [], g, m)) (ap test (of_none p ts m a) ∙ no)
-        (λ i. Some (sym (append_nil done) i, g, of_none p ts m a i)))
+      let no : test m ≡ false = elim stop [ inl e ↦ absurd (omega arith) | inr e ↦ e ] in (
+        g,
+        low,
+        if_no (test ts) (r ts >>= λ x. collect k test r (done ++ x.0 ∷ []) (max g x.1) x.2) (Some (done, g, ts)) (Some (done ++ [], g, m)) (ap test (of_none p ts m a) ∙ no)
+            (λ i. Some (sym (append_nil done) i, g, of_none p ts m a i)),
+      )
   row_found (suc k) done (x ∷ xs) g ts m le stop low few follow a =
       let b = of_more p x xs ts m a in
       let c = s.finds ts b.0 x few (after_row xs b.0 m follow b.2) b.1 in
       let l : length (x ∷ xs) ≡ length xs + 1 = omega arith in
       let stop2 : (length xs ≡ k) ⊎ (test m ≡ false) = elim stop [ inl e ↦ inl (omega arith) | inr e ↦ inr e ] in
-      let d = row_found k (done ++ x ∷ []) xs (max g c.0) b.0 m (omega arith) stop2 (max_le g c.0 D low c.1) (le_trans (length b.0) (length ts) n (not_longer p x ts b.0 b.1) few) follow b.2 in
-      (d.0, d.1, if_yes (test ts) (r ts >>= λ x. collect k test r (done ++ x.0 ∷ []) (max g x.1) x.2) (Some (done, g, ts)) (Some (done ++ x ∷ xs, d.0, m)) (begins x ts b.0 b.1)
-        (then_some (λ x. collect k test r (done ++ x.0 ∷ []) (max g x.1) x.2) (r ts) (x, c.0, b.0) (Some (done ++ x ∷ xs, d.0, m)) c.2
-          (d.2 ∙ (λ i. Some (append_assoc done (x ∷ []) xs i, d.0, m)))))
+      let d = row_found k (done ++ x ∷ []) xs (max g c.0) b.0 m (omega arith) stop2 (max_le g c.0 D low c.1) (le_trans (length b.0) (length ts) n (not_longer p x ts b.0 b.1) few) follow b.2 in (
+        d.0,
+        d.1,
+        if_yes (test ts) (r ts >>= λ x. collect k test r (done ++ x.0 ∷ []) (max g x.1) x.2) (Some (done, g, ts)) (Some (done ++ x ∷ xs, d.0, m)) (begins x ts b.0 b.1)
+            (then_some (λ x. collect k test r (done ++ x.0 ∷ []) (max g x.1) x.2) (r ts) (x, c.0, b.0) (Some (done ++ x ∷ xs, d.0, m)) c.2
+            (d.2 ∙ (λ i. Some (append_assoc done (x ∷ []) xs i, d.0, m)))),
+      )
 
   -- a row has no more phrases than tokens
   pub row_short : ((x : A) (ts m : List Token) → At p x ts m → length m + 1 ≤ length ts) → (xs : List A) (ts m : List Token) → At (many p) xs ts m → length xs ≤ length ts

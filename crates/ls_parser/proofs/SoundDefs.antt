@@ -1,36 +1,33 @@
 -- What is read of definitions and of files is in the grammar.
-use Rattle.std.proofs.Common.{◌≡◌, ℕ, zero, suc, ◌+◌, ◌-◌, ◌<◌, ◌≤◌, ◌⊎◌, inl, inr, Bool, true, false, List, [], ◌∷◌, ◌++◌, Option, Some, None, Result, Ok, Err, map, take, drop, max, rules, length, refl, sym, ◌∙◌, ap, subst, arith, append_assoc, if◌then◌else◌, option_and_then, unwrap_or, length-append, length-drop, add-one}
-use Rattle.std.specs.Prelude.{nat_lt, nat_eq, not, ◌&&◌, ◌||◌, option_map, IfOk}
+use Rattle.std.proofs.Common.{◌≡◌, ℕ, zero, suc, ◌+◌, ◌-◌, ◌≤◌, ◌⊎◌, inl, inr, Bool, true, false, List, [], ◌∷◌, ◌++◌, Option, Some, None, Result, Ok, Err, map, take, drop, max, length, refl, sym, ◌∙◌, ap, subst, arith, append_assoc, if◌then◌else◌, unwrap_or, length-append, length-drop, add-one}
+use Rattle.std.specs.Prelude.{nat_lt, nat_eq, ◌&&◌, ◌||◌, option_map, IfOk}
 use Rattle.std.proofs.lemmas.List.{length-map, take-map, drop-map, take_at, drop_at, drop-drop, take-append-drop}
 use Rattle.std.proofs.lemmas.Bool.{ltb-true}
 use Rattle.ls_ast.specs.declared.tree.BodyOf.{BodyOf}
 use Rattle.ls_ast.specs.declared.tree.DefOf.{DefOf}
 use Rattle.ls_ast.specs.declared.tree.DefOf.TheVariants as def
 use Rattle.ls_ast.specs.declared.tree.Equation.{Equation}
-use Rattle.ls_ast.specs.declared.tree.Handler.{Handler}
 use Rattle.ls_ast.specs.declared.tree.Pat.{Pat}
 use Rattle.ls_ast.specs.declared.tree.Plain.{Plain}
 use Rattle.ls_base.specs.declared.Line.{Line}
 use Rattle.ls_base.specs.declared.Name.{Name}
 use Rattle.ls_lexer.specs.declared.token.Fixed.{Fixed}
-use Rattle.ls_lexer.specs.declared.token.Fixed.TheVariants.{KwLet, KwNode, KwRec, KwType, KwWhere, ParenLeft, Equal, Bar, Underscore}
+use Rattle.ls_lexer.specs.declared.token.Fixed.TheVariants.{KwLet, KwNode, KwRec, KwType, KwWhere, Equal, Bar}
 use Rattle.ls_lexer.specs.declared.token.Token.{Token}
-use Rattle.ls_lexer.specs.declared.token.Token.TheVariants.{Fixed as Word, Id, Cons, Int, Char, Text, Prefix}
+use Rattle.ls_lexer.specs.declared.token.Token.TheVariants.{Fixed as Word}
 use Rattle.ls_parser.specs.declared.level.Level.TheVariants.{Expr}
-use Rattle.ls_parser.specs.Making.{Tree, body_of, body_with, definition, or_none}
-use Rattle.ls_parser.specs.Notation.{Phrase, ◌▷◌, ◌◁◌, ◌⊗◌, ◌⇒◌, ◌or◌, many, some, separated, maybe, after, identifier, constructor}
+use Rattle.ls_parser.specs.Making.{body_of, body_with, definition, or_none}
+use Rattle.ls_parser.specs.Notation.{Phrase, ◌▷◌, ◌⊗◌, many, some, separated, maybe, after, identifier, constructor}
 use Rattle.ls_parser.specs.Grammar as g
 use Rattle.ls_parser.specs.Grammar.{IsExpr, IsPat, IsEquation, IsBody, IsDef, IsDefinition, MayFollow, IsRow, IsFile, StopsAt}
-use Rattle.ls_parser.specs.Answers.{IfSyntax}
 use Rattle.ls_parser.specs.Definitions.{IsRead}
 use Rattle.ls_parser.specs.declared.definitions.SyntaxFault.{SyntaxFault}
-use Rattle.ls_parser.specs.declared.definitions.SyntaxFault.TheVariants as fault
 use Rattle.ls_parser.specs.Definitions as r
 use Rattle.ls_parser.specs.Equations as re
 use Rattle.ls_parser.specs.Expressions.{expression}
 use Rattle.ls_parser.specs.Patterns.{pattern}
-use Rattle.ls_parser.specs.Reading.{Reader, ◌>>=◌, uncons, is_word, starts, word, name, constructor as constructor_read, taller, behind, collect}
-use Rattle.ls_parser.proofs.Front.{At, append_nil, true_false, sound_begins, some_of, branch_of, some_one, none_some, taller_is, cons_of, word_one, word_of, name_at, constructor_at, le_refl, le_trans, max_left, max_right, one_more, less_high, at_word, at_end, at_made, at_both, at_none, at_more, Got, Reads, Stands, Sound, Tall, give, sound_behind, whole, Behind, sound_collect, sound_separated}
+use Rattle.ls_parser.specs.Reading.{◌>>=◌, is_word, starts, word, name, constructor as constructor_read, taller}
+use Rattle.ls_parser.proofs.Front.{At, append_nil, true_false, some_of, branch_of, some_one, none_some, word_one, word_of, name_at, constructor_at, le_refl, max_left, max_right, one_more, less_high, at_word, at_made, at_both, Got, Reads, Stands, Sound, give, whole, sound_collect, sound_separated}
 use Rattle.ls_parser.proofs.SoundExpr.{sound_expression}
 use Rattle.ls_parser.proofs.SoundEqs.{sound_pattern, sound_both_kinds, at_skip, at_nothing, at_something, equations_read}
 
@@ -257,12 +254,12 @@ module _ (all : List (Line × Token)) where
   -- what the rest of a file is, from some of its tokens on, behind definitions that were read
   abbrev pub Outcome : List (DefOf Plain) → List (Line × Token) → Result (List (DefOf Plain)) Line → Type 0
   Outcome done ts (Ok defs) = (ds : List (DefOf Plain)) × (defs ≡ done ++ ds) × IsRow ds ts []
-  Outcome done ts (Err line) = (ds : List (DefOf Plain)) × (t : Line × Token) × (left : List (Line × Token)) × (t.0 ≡ line) × IsRow ds ts (t ∷ left) × (r.followed (length all) t.0 (words (t ∷ left)) ≡ None)
+  Outcome done ts (Err line) = (ds : List (DefOf Plain)) × (t : Line × Token) × (left : List (Line × Token)) × (t.0 ≡ line) × IsRow ds ts (t ∷ left) × (r.followed (length all) t.0 (words (t ∷ left)) ≡ None) × (length (t ∷ left) ≤ length all)
 
   extend : (done : List (DefOf Plain)) (d : DefOf Plain) (ts front back : List (Line × Token)) (out : Result (List (DefOf Plain)) Line)
       → ts ≡ front ++ back → IsDefinition d front → MayFollow back → Outcome (done ++ d ∷ []) back out → Outcome done ts out
   extend done d ts front back (Ok defs) is one next o = (d ∷ o.0, o.1 ∙ append_assoc done (d ∷ []) o.0, (front, back, is, one, next, o.2))
-  extend done d ts front back (Err line) is one next o = (d ∷ o.0, o.1, o.2, o.3, (front, back, is, one, next, o.4), o.5)
+  extend done d ts front back (Err line) is one next o = (d ∷ o.0, o.1, o.2, o.3, (front, back, is, one, next, o.4), o.5, o.6)
 
   ended_at : (done : List (DefOf Plain)) (out : Result (List (DefOf Plain)) Line) → Ok done ≡ out → Outcome done [] out
   ended_at done out e = subst (Outcome done []) e ([], sym (append_nil done), refl)
@@ -280,7 +277,7 @@ module _ (all : List (Line × Token)) where
       → (done : List (DefOf Plain)) (t : Line × Token) (ts : List (Line × Token)) (a : ℕ) → t ∷ ts ≡ drop a all → length (t ∷ ts) ≤ suc k → (out : Result (List (DefOf Plain)) Line)
       → (p : Option (DefOf Plain × List Token)) → r.followed (length all) t.0 (words (t ∷ ts)) ≡ p
       → unwrap_or (option_map (λ z. r.file_from all k (done ++ z.0 ∷ []) (drop (length all - length z.1) all)) p) (Err t.0) ≡ out → Outcome done (t ∷ ts) out
-  one_read k ih done t ts a is few out None found e = subst (Outcome done (t ∷ ts)) e ([], t, ts, refl, refl, found)
+  one_read k ih done t ts a is few out None found e = subst (Outcome done (t ∷ ts)) e ([], t, ts, refl, refl, found, (let l : length (t ∷ ts) ≡ length all - a = ap length is ∙ length-drop a all in omega arith))
   one_read k ih done t ts a is few out (Some p) found e =
       let pos : 1 ≤ length all = nonempty_all t ts a is in
       let f = followed_read (length all) pos t.0 (words (t ∷ ts)) p found in
@@ -323,11 +320,3 @@ module _ (all : List (Line × Token)) where
   pub file_is : (result : Result (List (DefOf Plain)) SyntaxFault) → IsRead result (r.file_from all (length all) [] all) → IfOk result (λ defs. IsFile defs all)
   file_is (Ok defs) e = ok_file defs (file_read (length all) [] all 0 refl (le_refl (length all)) (Ok defs) e)
   file_is (Err f) e = tt
-
-  stops : (line : Line) → Outcome [] all (Err line) → StopsAt all line
-  stops line o = (o.0, o.1, o.2, o.3, o.4)
-
-  pub fault_is : (result : Result (List (DefOf Plain)) SyntaxFault) → IsRead result (r.file_from all (length all) [] all) → IfSyntax result (λ line. StopsAt all line)
-  fault_is (Ok defs) e = tt
-  fault_is (Err (fault.Syntax line)) e = stops line (file_read (length all) [] all 0 refl (le_refl (length all)) (Err line) e)
-  fault_is (Err fault.NoMemory) e = tt

@@ -1,6 +1,6 @@
 -- What is read of patterns and of equations are patterns and equations.
-use Rattle.std.proofs.Common.{◌≡◌, ℕ, zero, suc, ◌+◌, ◌-◌, ◌<◌, ◌≤◌, ◌⊎◌, inl, inr, Bool, true, false, List, [], ◌∷◌, ◌++◌, Option, Some, None, max, length, refl, sym, ◌∙◌, ap, subst, arith, append_assoc, if◌then◌else◌, option_and_then, unwrap_or}
-use Rattle.std.specs.Prelude.{nat_lt, nat_eq, not, ◌&&◌, ◌||◌}
+use Rattle.std.proofs.Common.{◌≡◌, ℕ, zero, suc, ◌≤◌, ◌⊎◌, inl, inr, Bool, true, false, List, [], ◌∷◌, ◌++◌, Option, Some, None, max, refl, sym, ◌∙◌, ap, subst, append_assoc, if◌then◌else◌}
+use Rattle.std.specs.Prelude.{not, ◌&&◌}
 use Rattle.ls_ast.specs.declared.tree.Arm.{Arm}
 use Rattle.ls_ast.specs.declared.tree.Equation.{Equation}
 use Rattle.ls_ast.specs.declared.tree.Equation.TheVariants as eq
@@ -15,17 +15,17 @@ use Rattle.ls_base.specs.declared.Name.{Name}
 use Rattle.ls_lexer.specs.declared.token.Fixed.{Fixed}
 use Rattle.ls_lexer.specs.declared.token.Fixed.TheVariants.{KwAnd, KwAutomaton, KwClock, KwContinue, KwDo, KwDone, KwElse, KwEmit, KwEnd, KwEvery, KwFalse, KwIn, KwLast, KwLet, KwMatch, KwPresent, KwRec, KwReset, KwThen, KwTrue, KwUnless, KwUntil, KwWith, ParenLeft, ParenRight, Comma, Equal, Arrow, Bar, Underscore}
 use Rattle.ls_lexer.specs.declared.token.Token.{Token}
-use Rattle.ls_lexer.specs.declared.token.Token.TheVariants.{Fixed as Word, Id, Cons, Int, Char, Text, Prefix}
+use Rattle.ls_lexer.specs.declared.token.Token.TheVariants.{Fixed as Word, Cons}
 use Rattle.ls_parser.specs.declared.level.Level.TheVariants.{Expr}
 use Rattle.ls_parser.specs.Making.{Tree, guard, arm_of, arms_of, test_of, state_of, state_with, handler_of, handler_with, guards_that, with_strong, with_weak, or_none, true_name, false_name}
-use Rattle.ls_parser.specs.Notation.{Phrase, ◌▷◌, ◌◁◌, ◌⊗◌, ◌⇒◌, ◌or◌, many, some, separated, maybe, after, identifier, constructor}
+use Rattle.ls_parser.specs.Notation.{Phrase, ◌▷◌, ◌◁◌, ◌⊗◌, ◌⇒◌, many, some, separated, maybe, after, identifier, constructor}
 use Rattle.ls_parser.specs.Grammar as g
 use Rattle.ls_parser.specs.Grammar.{IsExpr, IsPat, IsEquation, IsHandler}
 use Rattle.ls_parser.specs.Patterns as rp
 use Rattle.ls_parser.specs.Equations as r
 use Rattle.ls_parser.specs.Expressions.{expression}
 use Rattle.ls_parser.specs.Reading.{Reader, ◌>>=◌, uncons, is_word, starts, word, name, constructor as constructor_read, taller, behind, collect}
-use Rattle.ls_parser.proofs.Front.{At, append_nil, true_false, sound_begins, some_of, branch_of, some_one, none_some, taller_is, cons_of, word_one, word_of, name_at, constructor_at, le_refl, le_trans, max_left, max_right, one_more, less_high, at_word, at_end, at_made, at_both, at_none, at_more, Got, Reads, Stands, Sound, Tall, give, sound_behind, whole, Behind, sound_collect, sound_separated}
+use Rattle.ls_parser.proofs.Front.{At, append_nil, true_false, sound_begins, some_of, branch_of, some_one, none_some, cons_of, word_one, word_of, name_at, constructor_at, le_refl, le_trans, max_left, max_right, one_more, less_high, at_word, at_end, at_made, at_both, at_none, at_more, Got, Reads, Stands, Sound, give, sound_behind, whole, sound_separated}
 use Rattle.ls_parser.proofs.SoundExpr.{sound_expression}
 
 -- patterns

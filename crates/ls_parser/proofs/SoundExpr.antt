@@ -1,5 +1,5 @@
 -- What is read of an expression is one.
-use Rattle.std.proofs.Common.{◌≡◌, ℕ, zero, suc, ◌+◌, ◌-◌, ◌<◌, ◌≤◌, ◌⊎◌, inl, inr, Bool, true, false, List, [], ◌∷◌, ◌++◌, Option, Some, None, max, length, refl, sym, ◌∙◌, ap, subst, arith, append_assoc, if◌then◌else◌, option_and_then, unwrap_or}
+use Rattle.std.proofs.Common.{◌≡◌, ℕ, zero, suc, ◌≤◌, ◌⊎◌, inl, inr, Bool, true, false, List, [], ◌∷◌, ◌++◌, Option, Some, None, max, length, refl, sym, ◌∙◌, ap, subst, arith, if◌then◌else◌, unwrap_or}
 use Rattle.std.specs.Prelude.{nat_lt, nat_eq, not, ◌&&◌}
 use Rattle.std.specs.Option.{option_map}
 use Rattle.std.proofs.lemmas.Bool.{eqb-true, ltb-false}
@@ -15,17 +15,17 @@ use Rattle.ls_ops.specs.declared.kinds.Op.{Op}
 use Rattle.ls_ops.specs.declared.kinds.Op.TheVariants as op
 use Rattle.ls_value.specs.declared.leaf.Leaf.TheVariants as leaf
 use Rattle.ls_parser.specs.declared.level.Level.{Level}
-use Rattle.ls_parser.specs.declared.level.Level.TheVariants.{Expr, Init, Delay, Samp, Disj, Conj, Comp, Sum, Prod, Unary, App, Atom}
+use Rattle.ls_parser.specs.declared.level.Level.TheVariants.{Expr, Delay, Unary, App, Atom}
 use Rattle.ls_parser.specs.declared.level.Infix.{Infix}
 use Rattle.ls_parser.specs.declared.level.Infix.TheVariants as between
 use Rattle.ls_parser.specs.Levels.{rank, left, right, infix_of, level_of}
 use Rattle.ls_parser.specs.Making.{Tree, node, constant, chosen, unary, binary, previous, applied, called, merged, operands, simple}
-use Rattle.ls_parser.specs.Notation.{Phrase, ◌▷◌, ◌◁◌, ◌⊗◌, ◌⇒◌, ◌or◌, many, some, identifier, constructor}
+use Rattle.ls_parser.specs.Notation.{Phrase, ◌▷◌, ◌◁◌, ◌⊗◌, ◌⇒◌, many, some, identifier, constructor}
 use Rattle.ls_parser.specs.Grammar as g
 use Rattle.ls_parser.specs.Grammar.{IsExpr}
-use Rattle.ls_parser.specs.Reading.{Reader, ◌>>=◌, uncons, is_word, starts, word, name, constructor as constructor_read, taller, behind, both, form_of, collect}
+use Rattle.ls_parser.specs.Reading.{Reader, ◌>>=◌, uncons, is_word, starts, word, name, constructor as constructor_read, taller, behind, form_of, collect}
 use Rattle.ls_parser.specs.Expressions as r
-use Rattle.ls_parser.proofs.Front.{At, append_nil, true_false, sound_begins, some_of, branch_of, some_one, none_some, taller_is, cons_of, word_one, word_of, name_at, constructor_at, le_refl, le_trans, max_left, max_right, one_more, less_high, at_word, at_end, at_made, at_left, at_right, at_both, at_none, at_more, Got, Reads, Stands, Sound, Tall, give, sound_behind, sound_both, tall_form, whole, Behind, sound_collect}
+use Rattle.ls_parser.proofs.Front.{At, append_nil, true_false, sound_begins, some_of, branch_of, some_one, none_some, cons_of, word_one, word_of, name_at, constructor_at, le_refl, le_trans, max_left, max_right, one_more, less_high, at_word, at_end, at_made, at_both, at_more, Got, Reads, Stands, Sound, Tall, give, sound_behind, sound_both, tall_form, whole, sound_collect}
 
 -- a phrase of a level is one of each looser level
 pub loosen : (D : ℕ) (l k : Level) (x : Tree) (ts m : List Token) → rank l ≤ rank k → At (IsExpr D k) x ts m → At (IsExpr D l) x ts m
@@ -513,7 +513,7 @@ module _ (n : ℕ) (pos : 1 ≤ n) (R : Level → Reader Tree) (sr : (l : Level)
                         let d = some_of (r.climb n R n Expr Unary b.0 c.0 a.0.2) (λ y. r.group_from n R y.0 y.1 y.2) z c.2 in
                         let s1 = applied_stands App (le_refl 10) a.0.0.0 a.0.0.1.0 a.0.0.1.1 b.0 a.0.1 c.0 m a.0.2 b.1 c.1 loose in
                         let s3 = looser Unary App nine_ten m (b.0, c.0, a.0.2) s1 in
-                  let s2 = climb_stands Expr n m Unary (none_less 9) b.0 c.0 a.0.2 s3.0 (whole (λ D. IsExpr D Unary) m (b.0, c.0, a.0.2) s3) d.0 d.1 in
+                        let s2 = climb_stands Expr n m Unary (none_less 9) b.0 c.0 a.0.2 s3.0 (whole (λ D. IsExpr D Unary) m (b.0, c.0, a.0.2) s3) d.0 d.1 in
                         group_from_stands ts m first d.0.0 d.0.1 d.0.2 (whole (λ D. IsExpr D Expr) m d.0 s2) z d.2
                   ]
               | inr s ↦

@@ -1,15 +1,13 @@
 -- What is read of definitions. `n` is the number of all tokens, which bounds each repetition.
-use Rattle.std.specs.Prelude.{◌≡◌, ℕ, zero, suc, ◌+◌, ◌-◌, List, [], ◌∷◌, ◌++◌, Option, Some, None, Result, Ok, Err, Bool, true, false, not, ◌&&◌, ◌||◌, map, drop, length, max, nat_lt, nat_eq, option_and_then, unwrap_or, option_map, if◌then◌else◌}
+use Rattle.std.specs.Prelude.{◌≡◌, ℕ, zero, suc, ◌-◌, List, [], ◌∷◌, ◌++◌, Option, Some, None, Result, Ok, Err, Bool, true, false, ◌&&◌, ◌||◌, map, drop, length, max, nat_eq, unwrap_or, option_map, if◌then◌else◌}
 use Rattle.ls_ast.specs.declared.tree.BodyOf.{BodyOf}
 use Rattle.ls_ast.specs.declared.tree.DefOf.{DefOf}
 use Rattle.ls_ast.specs.declared.tree.DefOf.TheVariants as def
 use Rattle.ls_ast.specs.declared.tree.Equation.{Equation}
-use Rattle.ls_ast.specs.declared.tree.Handler.{Handler}
 use Rattle.ls_ast.specs.declared.tree.Pat.{Pat}
 use Rattle.ls_ast.specs.declared.tree.Plain.{Plain}
 use Rattle.ls_base.specs.declared.Line.{Line}
 use Rattle.ls_base.specs.declared.Name.{Name}
-use Rattle.ls_lexer.specs.declared.token.Fixed.{Fixed}
 use Rattle.ls_lexer.specs.declared.token.Fixed.TheVariants.{KwLet, KwNode, KwRec, KwType, KwWhere, ParenLeft, Equal, Bar, Underscore}
 use Rattle.ls_lexer.specs.declared.token.Token.{Token}
 use Rattle.ls_lexer.specs.declared.token.Token.TheVariants.{Fixed as Word, Id}
@@ -18,9 +16,9 @@ use Rattle.ls_parser.specs.declared.definitions.SyntaxFault.{SyntaxFault}
 use Rattle.ls_parser.specs.declared.definitions.SyntaxFault.TheVariants as fault
 use Rattle.ls_parser.specs.Equations.{equations, equation_at, doing_at, skip}
 use Rattle.ls_parser.specs.Expressions.{expression}
-use Rattle.ls_parser.specs.Making.{Tree, body_with, definition}
+use Rattle.ls_parser.specs.Making.{body_with, definition}
 use Rattle.ls_parser.specs.Patterns.{pattern}
-use Rattle.ls_parser.specs.Reading.{◌>>=◌, Reader, uncons, starts, is_word, word, name, constructor, taller, behind, collect}
+use Rattle.ls_parser.specs.Reading.{◌>>=◌, Reader, starts, is_word, word, name, constructor, taller, behind, collect}
 
 abbrev pub opens : Token → Bool
 opens (Id x) = true

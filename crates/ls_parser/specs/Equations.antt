@@ -1,5 +1,5 @@
 -- What is read of equations and of the blocks that hold some. `n` is the number of all tokens, which bounds each repetition.
-use Rattle.std.specs.Prelude.{◌≡◌, ℕ, zero, suc, ◌+◌, List, [], ◌∷◌, ◌++◌, Option, Some, None, Bool, true, false, not, ◌&&◌, ◌||◌, max, nat_lt, option_and_then, if◌then◌else◌}
+use Rattle.std.specs.Prelude.{ℕ, zero, suc, List, [], ◌∷◌, ◌++◌, Option, Some, None, Bool, true, false, not, ◌&&◌, ◌||◌, max, if◌then◌else◌}
 use Rattle.ls_ast.specs.declared.tree.Arm.{Arm}
 use Rattle.ls_ast.specs.declared.tree.Equation.{Equation}
 use Rattle.ls_ast.specs.declared.tree.Equation.TheVariants as eq

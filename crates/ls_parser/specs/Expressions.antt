@@ -1,5 +1,5 @@
 -- What is read of an expression. `n` is the number of all tokens, which bounds each repetition; R reads the parts.
-use Rattle.std.specs.Prelude.{◌≡◌, ℕ, zero, suc, ◌+◌, ◌-◌, List, [], ◌∷◌, ◌++◌, Option, Some, None, Bool, true, false, not, ◌&&◌, max, length, nat_lt, nat_eq, option_and_then, unwrap_or, if◌then◌else◌}
+use Rattle.std.specs.Prelude.{ℕ, zero, suc, List, [], ◌∷◌, Option, Some, None, Bool, true, false, not, ◌&&◌, max, length, nat_lt, nat_eq, unwrap_or, if◌then◌else◌}
 use Rattle.std.specs.Option.{option_map}
 use Rattle.ls_ast.specs.declared.tree.Case.{Case}
 use Rattle.ls_ast.specs.declared.tree.Case.TheVariants as case
@@ -8,12 +8,12 @@ use Rattle.ls_base.specs.declared.Name.{Name}
 use Rattle.ls_lexer.specs.declared.token.Fixed.{Fixed}
 use Rattle.ls_lexer.specs.declared.token.Fixed.TheVariants.{KwElse, KwEvery, KwFalse, KwIf, KwLast, KwMerge, KwNot, KwPre, KwRun, KwThen, KwTrue, ParenLeft, ParenRight, Comma, Minus, Arrow, Question}
 use Rattle.ls_lexer.specs.declared.token.Token.{Token}
-use Rattle.ls_lexer.specs.declared.token.Token.TheVariants.{Fixed as Word, Id, Cons, Int, Char, Text, Prefix}
+use Rattle.ls_lexer.specs.declared.token.Token.TheVariants.{Fixed as Word, Id, Cons, Prefix}
 use Rattle.ls_ops.specs.declared.kinds.Op.{Op}
 use Rattle.ls_ops.specs.declared.kinds.Op.TheVariants as op
 use Rattle.ls_value.specs.declared.leaf.Leaf.TheVariants as leaf
 use Rattle.ls_parser.specs.declared.level.Level.{Level}
-use Rattle.ls_parser.specs.declared.level.Level.TheVariants.{Expr, Delay, Samp, Unary, App, Atom}
+use Rattle.ls_parser.specs.declared.level.Level.TheVariants.{Expr, Delay, Unary, App, Atom}
 use Rattle.ls_parser.specs.declared.level.Infix.{Infix}
 use Rattle.ls_parser.specs.declared.level.Infix.TheVariants as between
 use Rattle.ls_parser.specs.Levels.{rank, left, right, infix_of, level_of}

@@ -12,8 +12,6 @@ use Rattle.ls_ast.specs.declared.tree.Equation.TheVariants as eq
 use Rattle.ls_ast.specs.declared.tree.Form.TheVariants as form
 use Rattle.ls_ast.specs.declared.tree.Guard.{Guard}
 use Rattle.ls_ast.specs.declared.tree.Handler.{Handler}
-use Rattle.ls_ast.specs.declared.tree.Mark.{Mark}
-use Rattle.ls_ast.specs.declared.tree.Mark.TheVariants as mark
 use Rattle.ls_ast.specs.declared.tree.Pat.{Pat}
 use Rattle.ls_ast.specs.declared.tree.Pat.TheVariants as pat
 use Rattle.ls_ast.specs.declared.tree.Plain.{Plain}
@@ -29,7 +27,7 @@ use Rattle.ls_ops.specs.declared.kinds.Op.{Op}
 use Rattle.ls_ops.specs.declared.kinds.Op.TheVariants as op
 use Rattle.ls_value.specs.declared.leaf.Leaf.TheVariants as leaf
 use Rattle.ls_parser.specs.declared.level.Level.{Level}
-use Rattle.ls_parser.specs.declared.level.Level.TheVariants.{Expr, Delay, Samp, Unary, App, Atom}
+use Rattle.ls_parser.specs.declared.level.Level.TheVariants.{Expr, Delay, Unary, App, Atom}
 use Rattle.ls_parser.specs.declared.level.Infix.{Infix}
 use Rattle.ls_parser.specs.declared.level.Infix.TheVariants as between
 use Rattle.ls_parser.specs.Levels.{rank, left, right, infix_of, level_of}
@@ -245,6 +243,10 @@ IsRow (d ∷ ds) ts left = (front : List (Line × Token)) × (back : List (Line 
 abbrev pub IsFile : List (DefOf Plain) → List (Line × Token) → Type 0
 IsFile defs ts = IsRow defs ts []
 
--- definitions, and then tokens of which the first stands in the line
+-- no part at the front of the tokens is a definition that something follows which may follow it
+abbrev pub NoneBegins : List (Line × Token) → Type 0
+NoneBegins ts = (d : DefOf Plain) (front back : List (Line × Token)) → ts ≡ front ++ back → IsDefinition d front → MayFollow back → ⊥
+
+-- definitions, and then tokens at whose front none stands; the first of these stands in the line
 abbrev pub StopsAt : List (Line × Token) → Line → Type 0
-StopsAt ts line = (defs : List (DefOf Plain)) × (t : Line × Token) × (left : List (Line × Token)) × (t.0 ≡ line) × IsRow defs ts (t ∷ left)
+StopsAt ts line = (defs : List (DefOf Plain)) × (t : Line × Token) × (left : List (Line × Token)) × (t.0 ≡ line) × IsRow defs ts (t ∷ left) × NoneBegins (t ∷ left)

@@ -2,7 +2,6 @@
 use Rattle.std.specs.Prelude.{ℕ, Option, Some, None}
 use Rattle.ls_lexer.specs.declared.token.Fixed.{Fixed}
 use Rattle.ls_lexer.specs.declared.token.Fixed.TheVariants.{KwFby, KwMod, KwOr, KwWhen, KwWhenot, KwXor, Equal, Differ, Less, LessEq, Greater, GreaterEq, Plus, Minus, Star, Slash, Arrow, Ampersand}
-use Rattle.ls_ops.specs.declared.kinds.Op.{Op}
 use Rattle.ls_ops.specs.declared.kinds.Op.TheVariants as op
 use Rattle.ls_parser.specs.declared.level.Level.{Level}
 use Rattle.ls_parser.specs.declared.level.Level.TheVariants.{Expr, Init, Delay, Samp, Disj, Conj, Comp, Sum, Prod, Unary, App, Atom}

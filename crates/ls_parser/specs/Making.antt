@@ -1,14 +1,12 @@
 -- The trees that the rules of the grammar make. The parser leaves each note and each mark empty.
-use Rattle.std.specs.Prelude.{ℕ, option_map, List, [], ◌∷◌, ◌++◌, map, if◌then◌else◌, Option, Some, None, Bool, true, false}
+use Rattle.std.specs.Prelude.{ℕ, option_map, List, [], ◌∷◌, ◌++◌, map, Option, Some, None, Bool, true, false}
 use Rattle.ls_ast.specs.declared.tree.Arm.{Arm}
 use Rattle.ls_ast.specs.declared.tree.BodyOf.{BodyOf}
-use Rattle.ls_ast.specs.declared.tree.Case.{Case}
 use Rattle.ls_ast.specs.declared.tree.DefOf.{DefOf}
 use Rattle.ls_ast.specs.declared.tree.DefOf.TheVariants as def
 use Rattle.ls_ast.specs.declared.tree.Equation.{Equation}
 use Rattle.ls_ast.specs.declared.tree.Guard.{Guard}
 use Rattle.ls_ast.specs.declared.tree.Handler.{Handler}
-use Rattle.ls_ast.specs.declared.tree.Mark.{Mark}
 use Rattle.ls_ast.specs.declared.tree.Mark.TheVariants as mark
 use Rattle.ls_ast.specs.declared.tree.Pat.{Pat}
 use Rattle.ls_ast.specs.declared.tree.State.{State, roll-State}

@@ -1,10 +1,9 @@
 -- What is read of a pattern. `n` is the number of all tokens, which bounds each repetition.
-use Rattle.std.specs.Prelude.{◌≡◌, ℕ, zero, suc, ◌+◌, List, [], ◌∷◌, ◌++◌, Option, Some, None, Bool, true, false, max, nat_lt, option_and_then, if◌then◌else◌}
+use Rattle.std.specs.Prelude.{ℕ, zero, suc, [], ◌∷◌, Some, None, if◌then◌else◌}
 use Rattle.ls_ast.specs.declared.tree.Pat.{Pat}
 use Rattle.ls_ast.specs.declared.tree.Pat.TheVariants as pat
 use Rattle.ls_lexer.specs.declared.token.Fixed.TheVariants.{ParenLeft, ParenRight, Comma, Underscore}
-use Rattle.ls_lexer.specs.declared.token.Token.{Token}
-use Rattle.ls_parser.specs.Reading.{◌>>=◌, Reader, uncons, starts, is_word, word, name, taller, behind, collect}
+use Rattle.ls_parser.specs.Reading.{◌>>=◌, Reader, starts, word, name, taller, behind, collect}
 
 -- P reads the parts.
 module _ (n : ℕ) (P : Reader Pat) where

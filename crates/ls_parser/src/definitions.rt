@@ -1,8 +1,10 @@
 //! Definitions, and whole files.
 
-ghost use Rattle.std.specs.Prelude.{◌≡◌, ◌+◌, ◌≤◌, ◌<◌, [], map, drop, length, IfOk};
+ghost use Rattle.std.specs.Prelude.{◌≡◌, ◌+◌, ◌≤◌, ◌<◌, List, [], map, drop, length, IfOk};
 ghost use Rattle.std.specs.Option.{option_map};
-ghost use Rattle.ls_parser.specs.Answers.{IfSyntax};
+ghost use Rattle.ls_parser.specs.Answers.{IfSyntax, IsAnswer};
+ghost use Rattle.ls_ast.specs.declared.tree.DefOf.{DefOf};
+ghost use Rattle.ls_ast.specs.declared.tree.Plain.{Plain};
 ghost use Rattle.ls_parser.specs.Grammar.{IsFile, StopsAt};
 ghost use Rattle.ls_parser.specs.Reading.{rest, seen, Gives};
 ghost use Rattle.ls_parser.specs.Definitions as spec;
@@ -274,6 +276,7 @@ impl Parser<'_> {
     pub fn defs(&self) -> Result<List<DefOf<Plain>>, SyntaxFault>
         ensures file { IfOk result (λ defs. IsFile defs self.now.tokens.now) }
         ensures fault { IfSyntax result (λ line. StopsAt self.now.tokens.now line) }
+        ensures only { (defs : List (DefOf Plain)) → IsFile defs self.now.tokens.now → IsAnswer (λ found. found) result defs }
     {
         self.file()
     }

@@ -490,7 +490,14 @@ impl Parser<'_> {
             }
             let made = self.applied(run, name, args)?;
             let height = taller(height)?;
-            let (first, height, at) = self.climb(Level::Expr, Level::Unary, made, height, at, parts)?;
+            let (first, height, at) = self.climb(
+                Level::Expr,
+                Level::Unary,
+                made,
+                height,
+                at,
+                parts,
+            )?;
             self.group_from(first, height, at, parts)
         } else {
             let (first, height, at) = self.phrase(Level::Expr, at, parts)?;

@@ -1,7 +1,11 @@
 //! Whole files.
 
-ghost use Rattle.std.specs.Prelude.{◌≡◌, IfOk};
-ghost use Rattle.ls_parser.specs.Answers.{IfSyntax};
+ghost use Rattle.std.specs.Prelude.{◌≡◌, List, IfOk};
+ghost use Rattle.ls_parser.specs.Answers.{IfSyntax, IsAnswer};
+ghost use Rattle.ls_ast.specs.declared.tree.DefOf.{DefOf};
+ghost use Rattle.ls_ast.specs.declared.tree.Plain.{Plain};
+ghost use Rattle.ls_base.specs.declared.Line.{Line};
+ghost use Rattle.ls_lexer.specs.declared.token.Token.{Token};
 ghost use Rattle.ls_parser.specs.Grammar.{IsFile, StopsAt};
 
 use crate::{Parser, SyntaxFault};
@@ -14,6 +18,7 @@ pub fn parse(alloc: Global, tokens: &Tokens) -> Result<File, SyntaxFault>
     ensures file { IfOk result (λ file. IsFile file.defs tokens.now.list) }
     ensures names { IfOk result (λ file. file.names ≡ tokens.now.names) }
     ensures fault { IfSyntax result (λ line. StopsAt tokens.now.list line) }
+    ensures only { (defs : List (DefOf Plain)) → IsFile defs tokens.now.list → IsAnswer (λ file. file.defs) result defs }
 {
     let parser = Parser {
         alloc,
@@ -26,6 +31,11 @@ pub fn parse(alloc: Global, tokens: &Tokens) -> Result<File, SyntaxFault>
     let names = tokens.names.copy(alloc)?;
     Ok(File { defs, names })
 }
+
+/// The tokens are the spelling of at most one file.
+pub fn one_tree()
+    ensures { (ts : List (Line × Token)) → (a b : List (DefOf Plain)) → IsFile a ts → IsFile b ts → a ≡ b }
+{}
 
 #[cfg(test)]
 mod tests {

@@ -11,5 +11,5 @@ mod patterns;
 
 pub use cursor::{Parser, Read, Stop, taller};
 pub use definitions::SyntaxFault;
-pub use file::parse;
+pub use file::{one_tree, parse};
 pub use level::{Infix, Level};

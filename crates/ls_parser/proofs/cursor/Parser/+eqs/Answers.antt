@@ -1,4 +1,4 @@
-use Rattle.std.proofs.Common.{rules, ◌≡◌, true, max, sym, ap, ◌∙◌, length}
+use Rattle.std.proofs.Common.{rules, ◌≡◌, max, sym, ap, ◌∙◌, length}
 use Rattle.ls_lexer.specs.declared.token.Fixed.TheVariants.{KwAnd, Bar}
 use Rattle.ls_parser.specs.declared.level.Level.TheVariants.{Expr}
 use Rattle.ls_parser.specs.Expressions.{expression}

@@ -1,4 +1,5 @@
-use Rattle.ls_parser.proofs.SoundDefs.{file_is, fault_is}
+use Rattle.ls_parser.proofs.SoundDefs.{file_is}
+use Rattle.ls_parser.proofs.Exact.{fault_is, answer_is}
 use Rattle.ls_parser.proofs.cursor.Parser.defs.Goals as goal
 
 pub returns-clause-file : goal.returns-clause-file
@@ -6,3 +7,6 @@ returns-clause-file c = file_is c.args.self.now.tokens.now c.file.result c.file.
 
 pub returns-clause-fault : goal.returns-clause-fault
 returns-clause-fault c = fault_is c.args.self.now.tokens.now c.file.result c.file.ensures
+
+pub returns-clause-only : goal.returns-clause-only
+returns-clause-only c = answer_is c.args.self.now.tokens.now c.file.result c.file.ensures

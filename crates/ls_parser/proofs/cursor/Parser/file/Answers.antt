@@ -1,6 +1,5 @@
-use Rattle.std.proofs.Common.{◌≡◌, sym, ◌∙◌, length, drop}
+use Rattle.std.proofs.Common.{sym, ◌∙◌, length}
 use Rattle.ls_parser.specs.Reading.{rest}
-use Rattle.ls_parser.specs.Definitions as spec
 use Rattle.ls_parser.proofs.Files.{file_turn, file_fails, file_stops}
 use Rattle.ls_parser.proofs.cursor.Parser.file.Goals as goal
 

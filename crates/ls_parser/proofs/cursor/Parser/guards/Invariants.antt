@@ -1,5 +1,4 @@
-use Rattle.std.proofs.Common.{◌≡◌, ◌+◌, ◌-◌, length}
-use Rattle.ls_lexer.specs.declared.token.Fixed.TheVariants.{KwAnd, Bar}
+use Rattle.std.proofs.Common.{◌≡◌, ◌-◌, length}
 use Rattle.ls_parser.specs.declared.level.Level.TheVariants.{Expr}
 use Rattle.ls_parser.specs.Expressions.{expression}
 use Rattle.ls_parser.specs.Equations as spec

@@ -1,4 +1,4 @@
-use Rattle.std.proofs.Common.{rules, ◌≡◌, max, sym, ap, ◌∙◌, length}
+use Rattle.std.proofs.Common.{rules, ◌≡◌, max, sym, ◌∙◌, length}
 use Rattle.ls_parser.specs.Reading.{rest}
 use Rattle.ls_parser.specs.Definitions as spec
 use Rattle.ls_parser.specs.Patterns.{pattern}

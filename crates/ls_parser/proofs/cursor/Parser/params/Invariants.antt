@@ -1,4 +1,4 @@
-use Rattle.std.proofs.Common.{◌≡◌, ◌-◌, length, [], ◌∷◌}
+use Rattle.std.proofs.Common.{◌≡◌, ◌-◌, length, []}
 use Rattle.ls_parser.specs.Reading.{rest, collect}
 use Rattle.ls_parser.specs.Definitions as spec
 use Rattle.ls_parser.specs.Patterns.{pattern}
