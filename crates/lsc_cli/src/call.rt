@@ -1,4 +1,4 @@
-ghost use Rattle.std.specs.Prelude.{◌≡◌, ◌≢◌, ◌≤◌, ◌↔◌, ◌⊎◌, ◌++◌, codes, decimal, length, true, IfSome, IsNone};
+ghost use Rattle.std.specs.Prelude.{◌≡◌, ◌≢◌, ◌≤◌, ◌↔◌, ◌⊎◌, ◌++◌, codes, decimal, length, true, false, IfSome, IsNone};
 ghost use Rattle.ls_base.specs.Outside.{Rose};
 ghost use Rattle.ls_lexer.specs.declared.fault.LexFault.{LexFault};
 ghost use Rattle.sum_model.specs.RunText.{AtBadLine};
@@ -46,7 +46,7 @@ pub fn lsc<T: Texts, S: Source, K: Sink>(
         Rose (T.count texts.old command.file) (T.count texts.new command.file)) }
     ensures read_fault { result ≡ Status.ReadFault → Rose (S.count input.old) (S.count input.new) }
     ensures write_fault { result ≡ Status.WriteFault → Rose (K.count out.old) (K.count out.new) }
-    ensures no_memory { result ≡ Status.NoMemory → (input.new ≡ input.old) × (out.new ≡ out.old) }
+    ensures untouched { is_about_file result ≡ false → (input.new ≡ input.old) × (out.new ≡ out.old) }
 {
     match words.as_slice() {
         [word, file, node] if word.as_str() == "run" => {
@@ -70,7 +70,7 @@ fn run<T: Texts, S: Source, K: Sink>(
     ensures unloaded { result ≡ Status.Unloaded → Rose (T.count texts.old file.now) (T.count texts.new file.now) }
     ensures read_fault { result ≡ Status.ReadFault → Rose (S.count input.old) (S.count input.new) }
     ensures write_fault { result ≡ Status.WriteFault → Rose (K.count out.old) (K.count out.new) }
-    ensures no_memory { result ≡ Status.NoMemory → (input.new ≡ input.old) × (out.new ≡ out.old) }
+    ensures untouched { is_about_file result ≡ false → (input.new ≡ input.old) × (out.new ≡ out.old) }
 {
     let mut bytes = Vec::new(alloc);
     match texts.load(file, &mut bytes) {
@@ -95,7 +95,7 @@ fn run_text<S: Source, K: Sink>(
     ensures unloaded { result ≢ Status.Unloaded }
     ensures read_fault { result ≡ Status.ReadFault → Rose (S.count input.old) (S.count input.new) }
     ensures write_fault { result ≡ Status.WriteFault → Rose (K.count out.old) (K.count out.new) }
-    ensures no_memory { result ≡ Status.NoMemory → (input.new ≡ input.old) × (out.new ≡ out.old) }
+    ensures untouched { is_about_file result ≡ false → (input.new ≡ input.old) × (out.new ≡ out.old) }
 {
     match lex(alloc, text) {
         Ok(tokens) => run_tokens(alloc, &tokens, node, input, out),
@@ -117,7 +117,7 @@ fn run_tokens<S: Source, K: Sink>(
     ensures unloaded { result ≢ Status.Unloaded }
     ensures read_fault { result ≡ Status.ReadFault → Rose (S.count input.old) (S.count input.new) }
     ensures write_fault { result ≡ Status.WriteFault → Rose (K.count out.old) (K.count out.new) }
-    ensures no_memory { result ≡ Status.NoMemory → (input.new ≡ input.old) × (out.new ≡ out.old) }
+    ensures untouched { is_about_file result ≡ false → (input.new ≡ input.old) × (out.new ≡ out.old) }
 {
     match parse(alloc, tokens) {
         Ok(file) => run_file(alloc, &file, node, input, out),
@@ -151,7 +151,7 @@ fn run_file<S: Source, K: Sink>(
     ensures unloaded { result ≢ Status.Unloaded }
     ensures read_fault { result ≡ Status.ReadFault → Rose (S.count input.old) (S.count input.new) }
     ensures write_fault { result ≡ Status.WriteFault → Rose (K.count out.old) (K.count out.new) }
-    ensures no_memory { result ≡ Status.NoMemory → (input.new ≡ input.old) × (out.new ≡ out.old) }
+    ensures untouched { is_about_file result ≡ false → (input.new ≡ input.old) × (out.new ≡ out.old) }
 {
     match sum_of(file.defs.as_slice()) {
         None => refuse(b"refused: form not built\n", out),
@@ -251,7 +251,7 @@ fn run_body<S: Source, K: Sink>(
     ensures unloaded { result ≢ Status.Unloaded }
     ensures read_fault { result ≡ Status.ReadFault → Rose (S.count input.old) (S.count input.new) }
     ensures write_fault { result ≡ Status.WriteFault → Rose (K.count out.old) (K.count out.new) }
-    ensures no_memory { result ≡ Status.NoMemory → (input.new ≡ input.old) × (out.new ≡ out.old) }
+    ensures untouched { is_about_file result ≡ false → (input.new ≡ input.old) × (out.new ≡ out.old) }
 {
     let Ok(mut exchange) = Exchange::new(alloc) else {
         return Status::NoMemory;
