@@ -4,6 +4,8 @@
 
 mod plain;
 mod running_sum;
+#[cfg(test)]
+mod tests;
 
 pub use plain::rows;
 pub use running_sum::{RunningSum, Stream};
