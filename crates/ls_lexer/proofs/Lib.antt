@@ -4,6 +4,5 @@ pub mod NameLemmas
 pub mod Named
 pub mod Quotes
 pub mod Rows
-pub mod Scans
 pub mod Tables
 pub mod Unique

@@ -1,43 +1,57 @@
 -- The keywords, and the symbols.
-use Rattle.std.specs.Prelude.{ℕ, ◌==◌, ◌&&◌, if◌then◌else◌, List, [], ◌∷◌, Option, Some, None, codes, map, find}
+use Rattle.std.specs.Prelude.{ℕ, Bool, ◌==◌, ◌&&◌, if◌then◌else◌, List, [], ◌∷◌, Option, Some, None, codes, map, find}
 use Rattle.std.specs.Option.{option_map}
 use Rattle.std.specs.Str.{bytes_eq}
 use denote.Ref.{Bor}
-use Rattle.ls_ops.specs.declared.kinds.Op.TheVariants.{Min, Max, Sign, Odd, IntOfChar, IsDigit, IsLetter}
+use Rattle.ls_ops.specs.declared.kinds.Op.{Op}
+use Rattle.ls_ops.specs.Signature.{is_prefix, symbol_of}
+use Rattle.ls_ops.specs.Symbols.{all_operators}
 use Rattle.ls_lexer.specs.declared.token.Fixed.{Fixed}
 use Rattle.ls_lexer.specs.declared.token.Fixed.TheVariants.{KwAnd, KwAutomaton, KwClock, KwContinue, KwDo, KwDone, KwElse, KwEmit, KwEnd, KwEvery, KwFalse, KwFby, KwIf, KwIn, KwLast, KwLet, KwMatch, KwMerge, KwMod, KwNode, KwNot, KwOr, KwPre, KwPresent, KwRec, KwReset, KwRun, KwThen, KwTrue, KwType, KwUnless, KwUntil, KwWhen, KwWhenot, KwWhere, KwWith, KwXor, ParenLeft, ParenRight, Comma, Equal, Differ, Less, LessEq, Greater, GreaterEq, Plus, Minus, Star, Slash, Arrow, Ampersand, Bar, Question}
 use Rattle.ls_lexer.specs.declared.keyword.Keyword.{Keyword}
 use Rattle.ls_lexer.specs.declared.keyword.Keyword.TheVariants.{Fixed as Only, Prefix}
 
--- the rows of a table, each a word and what it is
-abbrev pub entries : List (Bor (List ℕ) × Keyword) → List (List ℕ × Keyword)
+-- the rows of a table, each a word and its token
+abbrev pub entries : List (Bor (List ℕ) × Fixed) → List (List ℕ × Fixed)
 entries rows = map (λ row. (row.0.now, row.1)) rows
 
--- each keyword, with its token: that of an operator that stands before its operands has the operator
-abbrev pub keywords : List (List ℕ × Keyword)
-keywords =
-    (codes "and", Only KwAnd) ∷ (codes "automaton", Only KwAutomaton) ∷ (codes "clock", Only KwClock) ∷ (codes "continue", Only KwContinue)
-    ∷ (codes "do", Only KwDo) ∷ (codes "done", Only KwDone) ∷ (codes "else", Only KwElse) ∷ (codes "emit", Only KwEmit)
-    ∷ (codes "end", Only KwEnd) ∷ (codes "every", Only KwEvery) ∷ (codes "false", Only KwFalse) ∷ (codes "fby", Only KwFby)
-    ∷ (codes "if", Only KwIf) ∷ (codes "in", Only KwIn) ∷ (codes "int_of_char", Prefix IntOfChar) ∷ (codes "is_digit", Prefix IsDigit)
-    ∷ (codes "is_letter", Prefix IsLetter) ∷ (codes "last", Only KwLast) ∷ (codes "let", Only KwLet) ∷ (codes "match", Only KwMatch)
-    ∷ (codes "max", Prefix Max) ∷ (codes "merge", Only KwMerge) ∷ (codes "min", Prefix Min) ∷ (codes "mod", Only KwMod)
-    ∷ (codes "node", Only KwNode) ∷ (codes "not", Only KwNot) ∷ (codes "odd", Prefix Odd) ∷ (codes "or", Only KwOr)
-    ∷ (codes "pre", Only KwPre) ∷ (codes "present", Only KwPresent) ∷ (codes "rec", Only KwRec) ∷ (codes "reset", Only KwReset)
-    ∷ (codes "run", Only KwRun) ∷ (codes "sign", Prefix Sign) ∷ (codes "then", Only KwThen) ∷ (codes "true", Only KwTrue)
-    ∷ (codes "type", Only KwType) ∷ (codes "unless", Only KwUnless) ∷ (codes "until", Only KwUntil) ∷ (codes "when", Only KwWhen)
-    ∷ (codes "whenot", Only KwWhenot) ∷ (codes "where", Only KwWhere) ∷ (codes "with", Only KwWith) ∷ (codes "xor", Only KwXor) ∷ []
+-- each keyword that is a token of its own, with its token
+abbrev pub words : List (List ℕ × Fixed)
+words =
+    (codes "and", KwAnd) ∷ (codes "automaton", KwAutomaton) ∷ (codes "clock", KwClock) ∷ (codes "continue", KwContinue)
+    ∷ (codes "do", KwDo) ∷ (codes "done", KwDone) ∷ (codes "else", KwElse) ∷ (codes "emit", KwEmit)
+    ∷ (codes "end", KwEnd) ∷ (codes "every", KwEvery) ∷ (codes "false", KwFalse) ∷ (codes "fby", KwFby)
+    ∷ (codes "if", KwIf) ∷ (codes "in", KwIn) ∷ (codes "last", KwLast) ∷ (codes "let", KwLet) ∷ (codes "match", KwMatch)
+    ∷ (codes "merge", KwMerge) ∷ (codes "mod", KwMod) ∷ (codes "node", KwNode) ∷ (codes "not", KwNot)
+    ∷ (codes "or", KwOr) ∷ (codes "pre", KwPre) ∷ (codes "present", KwPresent) ∷ (codes "rec", KwRec)
+    ∷ (codes "reset", KwReset) ∷ (codes "run", KwRun) ∷ (codes "then", KwThen) ∷ (codes "true", KwTrue)
+    ∷ (codes "type", KwType) ∷ (codes "unless", KwUnless) ∷ (codes "until", KwUntil) ∷ (codes "when", KwWhen)
+    ∷ (codes "whenot", KwWhenot) ∷ (codes "where", KwWhere) ∷ (codes "with", KwWith) ∷ (codes "xor", KwXor) ∷ []
 
--- the keyword that a word is, if it is one
-abbrev pub keyword_in : List (List ℕ × Keyword) → List ℕ → Option Keyword
-keyword_in rows word = option_map (λ row. row.1) (find (λ row. bytes_eq row.0 word) rows)
+-- the token of a word in a table, if it is there
+abbrev pub word_in : List (List ℕ × Fixed) → List ℕ → Option Fixed
+word_in rows word = option_map (λ row. row.1) (find (λ row. bytes_eq row.0 word) rows)
 
 -- the same look-up in the rows as the code has them
-abbrev pub first_in : List (Bor (List ℕ) × Keyword) → List ℕ → Option Keyword
+abbrev pub first_in : List (Bor (List ℕ) × Fixed) → List ℕ → Option Fixed
 first_in rows word = option_map (λ row. row.1) (find (λ row. bytes_eq row.0.now word) rows)
 
+-- the operator stands before its operands, and the word is its symbol
+abbrev pub is_prefix_word : List ℕ → Op → Bool
+is_prefix_word word op = is_prefix op && bytes_eq (symbol_of op) word
+
+-- the operator that is written before its operands by a word, if there is one
+abbrev pub prefix_of : List ℕ → Option Op
+prefix_of word = find (is_prefix_word word) all_operators
+
+-- an operator's word is its keyword, and any other word is one where it is a token of its own
+abbrev pub keyword_or : Option Op → Option Fixed → Option Keyword
+keyword_or (Some op) word = Some (Prefix op)
+keyword_or None word = option_map Only word
+
+-- the keyword that a word is, if it is one
 abbrev pub keyword_of : List ℕ → Option Keyword
-keyword_of word = keyword_in keywords word
+keyword_of word = keyword_or (prefix_of word) (word_in words word)
 
 -- the symbol of two characters: `<>` `<=` `>=` `->` `&&` `||`, where `&&` is `&` and `||` is `or`
 abbrev pub symbol_of_two : ℕ → ℕ → Option Fixed

@@ -1,10 +1,10 @@
 //! The keywords.
 
 ghost use Rattle.std.specs.Prelude.{◌≡◌};
-ghost use Rattle.ls_lexer.specs.Keywords.{entries, keywords, keyword_of, first_in};
+ghost use Rattle.ls_lexer.specs.Keywords.{entries, first_in, keyword_of, prefix_of, word_in, words};
 
 use crate::Fixed;
-use ls_ops::Op;
+use ls_ops::{Op, find_op, prefix};
 
 /// What a keyword is: a token of its own, or the operator that is written before its operands.
 #[derive(Clone, Copy, Debug, PartialEq, Eq)]
@@ -13,69 +13,86 @@ pub enum Keyword {
     Prefix(Op),
 }
 
-/// The number of keywords.
-const KEYWORDS: usize = 44;
+/// The number of keywords that are tokens of their own.
+const WORDS: usize = 37;
 
-/// The keyword that a word is, if it is one.
+/// The keyword that a word is, if it is one. Which words are operators before their operands is
+/// told by the operators.
 pub fn find_keyword(word: &str) -> Option<Keyword>
     ensures { result ≡ keyword_of word.now }
 {
-    first_in(&all_keywords(), word)
+    match find_prefix(word) {
+        Some(op) => Some(Keyword::Prefix(op)),
+        None => match find_word(word) {
+            Some(fixed) => Some(Keyword::Fixed(fixed)),
+            None => None,
+        },
+    }
 }
 
-fn first_in(rows: &[(&'static str, Keyword); KEYWORDS], word: &str) -> Option<Keyword>
+/// The operator that is written before its operands by this word, if there is one.
+fn find_prefix(word: &str) -> Option<Op>
+    ensures { result ≡ prefix_of word.now }
+{
+    match find_op(word) {
+        Some(op) => { if prefix(op) { Some(op) } else { None } }
+        None => None,
+    }
+}
+
+fn find_word(word: &str) -> Option<Fixed>
+    ensures { result ≡ word_in words word.now }
+{
+    first_in(&all_words(), word)
+}
+
+fn first_in(rows: &[(&'static str, Fixed); WORDS], word: &str) -> Option<Fixed>
     ensures { result ≡ first_in rows.now word.now }
 {
     rows.iter().find(|row| row.0 == word).map(|row| row.1)
 }
 
-fn all_keywords() -> [(&'static str, Keyword); KEYWORDS]
-    ensures { entries result ≡ keywords }
+/// The keywords that are tokens of their own.
+fn all_words() -> [(&'static str, Fixed); WORDS]
+    ensures { entries result ≡ words }
 {
     [
-        ("and", Keyword::Fixed(Fixed::KwAnd)),
-        ("automaton", Keyword::Fixed(Fixed::KwAutomaton)),
-        ("clock", Keyword::Fixed(Fixed::KwClock)),
-        ("continue", Keyword::Fixed(Fixed::KwContinue)),
-        ("do", Keyword::Fixed(Fixed::KwDo)),
-        ("done", Keyword::Fixed(Fixed::KwDone)),
-        ("else", Keyword::Fixed(Fixed::KwElse)),
-        ("emit", Keyword::Fixed(Fixed::KwEmit)),
-        ("end", Keyword::Fixed(Fixed::KwEnd)),
-        ("every", Keyword::Fixed(Fixed::KwEvery)),
-        ("false", Keyword::Fixed(Fixed::KwFalse)),
-        ("fby", Keyword::Fixed(Fixed::KwFby)),
-        ("if", Keyword::Fixed(Fixed::KwIf)),
-        ("in", Keyword::Fixed(Fixed::KwIn)),
-        ("int_of_char", Keyword::Prefix(Op::IntOfChar)),
-        ("is_digit", Keyword::Prefix(Op::IsDigit)),
-        ("is_letter", Keyword::Prefix(Op::IsLetter)),
-        ("last", Keyword::Fixed(Fixed::KwLast)),
-        ("let", Keyword::Fixed(Fixed::KwLet)),
-        ("match", Keyword::Fixed(Fixed::KwMatch)),
-        ("max", Keyword::Prefix(Op::Max)),
-        ("merge", Keyword::Fixed(Fixed::KwMerge)),
-        ("min", Keyword::Prefix(Op::Min)),
-        ("mod", Keyword::Fixed(Fixed::KwMod)),
-        ("node", Keyword::Fixed(Fixed::KwNode)),
-        ("not", Keyword::Fixed(Fixed::KwNot)),
-        ("odd", Keyword::Prefix(Op::Odd)),
-        ("or", Keyword::Fixed(Fixed::KwOr)),
-        ("pre", Keyword::Fixed(Fixed::KwPre)),
-        ("present", Keyword::Fixed(Fixed::KwPresent)),
-        ("rec", Keyword::Fixed(Fixed::KwRec)),
-        ("reset", Keyword::Fixed(Fixed::KwReset)),
-        ("run", Keyword::Fixed(Fixed::KwRun)),
-        ("sign", Keyword::Prefix(Op::Sign)),
-        ("then", Keyword::Fixed(Fixed::KwThen)),
-        ("true", Keyword::Fixed(Fixed::KwTrue)),
-        ("type", Keyword::Fixed(Fixed::KwType)),
-        ("unless", Keyword::Fixed(Fixed::KwUnless)),
-        ("until", Keyword::Fixed(Fixed::KwUntil)),
-        ("when", Keyword::Fixed(Fixed::KwWhen)),
-        ("whenot", Keyword::Fixed(Fixed::KwWhenot)),
-        ("where", Keyword::Fixed(Fixed::KwWhere)),
-        ("with", Keyword::Fixed(Fixed::KwWith)),
-        ("xor", Keyword::Fixed(Fixed::KwXor)),
+        ("and", Fixed::KwAnd),
+        ("automaton", Fixed::KwAutomaton),
+        ("clock", Fixed::KwClock),
+        ("continue", Fixed::KwContinue),
+        ("do", Fixed::KwDo),
+        ("done", Fixed::KwDone),
+        ("else", Fixed::KwElse),
+        ("emit", Fixed::KwEmit),
+        ("end", Fixed::KwEnd),
+        ("every", Fixed::KwEvery),
+        ("false", Fixed::KwFalse),
+        ("fby", Fixed::KwFby),
+        ("if", Fixed::KwIf),
+        ("in", Fixed::KwIn),
+        ("last", Fixed::KwLast),
+        ("let", Fixed::KwLet),
+        ("match", Fixed::KwMatch),
+        ("merge", Fixed::KwMerge),
+        ("mod", Fixed::KwMod),
+        ("node", Fixed::KwNode),
+        ("not", Fixed::KwNot),
+        ("or", Fixed::KwOr),
+        ("pre", Fixed::KwPre),
+        ("present", Fixed::KwPresent),
+        ("rec", Fixed::KwRec),
+        ("reset", Fixed::KwReset),
+        ("run", Fixed::KwRun),
+        ("then", Fixed::KwThen),
+        ("true", Fixed::KwTrue),
+        ("type", Fixed::KwType),
+        ("unless", Fixed::KwUnless),
+        ("until", Fixed::KwUntil),
+        ("when", Fixed::KwWhen),
+        ("whenot", Fixed::KwWhenot),
+        ("where", Fixed::KwWhere),
+        ("with", Fixed::KwWith),
+        ("xor", Fixed::KwXor),
     ]
 }
