@@ -1,11 +1,2 @@
-pub mod Lists
-pub mod Steps
-pub mod Taken
-pub mod Around
-pub mod Binds
-pub mod NotedForms
-pub mod OnClock
-pub mod Back
-pub mod Forms
 pub mod Cellwise
 pub mod Filled

@@ -8,12 +8,12 @@ ghost use Rattle.kahn_plain.specs.Equations as own;
 
 use crate::Stopped;
 use crate::body::{Body, active, read};
-use crate::cells::{at, both, emitted, is_case, part, say_here, value_in};
+use kahn_cells::cells::{at, both, emitted, is_case, part, say_here, value_in};
 use crate::expressions::{cell, param_cell};
 use crate::memory::{Pace, last, mode_here, previous, variable_here};
-use crate::paths::lacks;
-use crate::search::{arms, chosen_arm, guards_of, nth, signal_in, start_of, state_of};
-use crate::values::{copy_value, nil};
+use kahn_cells::paths::lacks;
+use kahn_cells::search::{arms, chosen_arm, guards_of, nth, signal_in, start_of, state_of};
+use kahn_cells::values::{copy_value, nil};
 use kahn_model::{Cell, Definition, Key, Reach};
 use ls_ast::{Expr, Pat};
 use ls_base::{List, NoMemory};

@@ -2,17 +2,8 @@
 //! first, then each cell anew from the table before, a turn for each cell.
 #![tactic(auto)]
 
-mod body;
-mod cells;
-mod clocks;
 mod equations;
-mod expressions;
-mod memory;
-mod operands;
-mod paths;
-mod search;
 mod turns;
-mod values;
 
 use ls_base::NoMemory;
 pub use turns::{is_numbered, node_row, table};

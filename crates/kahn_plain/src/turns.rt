@@ -11,7 +11,7 @@ use crate::Stopped;
 use crate::body::Body;
 use crate::equations::turn;
 use crate::expressions::cell;
-use crate::search::nth;
+use kahn_cells::search::nth;
 use kahn_model::{Cell, Definition, Key};
 use ls_ast::DefOf;
 use ls_base::{List, NoMemory};

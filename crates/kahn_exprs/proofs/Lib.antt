@@ -1,0 +1,3 @@
+pub mod Cells
+pub mod Around
+pub mod Back

@@ -1,7 +1,0 @@
-use Rattle.std.proofs.Common.{◌≡◌, drop, map}
-use Rattle.kahn_model.specs.Functions as functions
-use Rattle.ls_sig.specs.Patterns.{joined, names_of}
-use Rattle.kahn_plain.proofs.search.+binds.Given as goal
-
-abbrev pub invariant-any_binds-loop-p : goal.invariant-any_binds-loop-p
-invariant-any_binds-loop-p l = functions.has_name l.x (joined (map names_of (drop l.p-index l.all))) ≡ functions.has_name l.x (joined (map names_of l.all))
