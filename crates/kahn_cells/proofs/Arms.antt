@@ -1,10 +1,8 @@
 -- Arms, one by one.
-use Rattle.std.specs.Prelude.{◌≡◌, ◌≢◌, refl, ℕ, zero, suc, ◌+◌, ◌-◌, ◌<◌, ◌||◌, Bool, true, false, List, [], ◌∷◌, ◌++◌, Option, Some, None, length, map, if◌then◌else◌}
-use Rattle.std.proofs.Common.{ap, sym, ◌∙◌, subst, arith, take, get_or}
-use Rattle.std.proofs.lemmas.Grind.{common_steps}
+use Rattle.std.specs.Prelude.{◌≡◌, ◌≢◌, refl, ℕ, zero, suc, ◌+◌, ◌-◌, ◌||◌, Bool, false, List, [], ◌∷◌, length, if◌then◌else◌}
+use Rattle.std.proofs.Common.{ap, sym, ◌∙◌, subst, arith}
 use Rattle.ls_sig.specs.Places.{InnerArm}
 use Rattle.kahn_model.specs.declared.definition.Definition.{Definition}
-use Rattle.kahn_model.specs.Rows.{Row, know, previous}
 use Rattle.kahn_model.specs.Search.{count_up, is_empty, lacks_within, outer_block, paths_inside}
 use Rattle.kahn_cells.specs.Paths.{any_arm_lacks, any_empty, count_arms}
 

@@ -1,5 +1,5 @@
 -- What is around a place goes by what is around it at the same instant alone.
-use Rattle.std.specs.Prelude.{◌≡◌, refl, ℕ, Bool, true, false, List, [], ◌∷◌, Option, Some}
+use Rattle.std.specs.Prelude.{◌≡◌, refl, ℕ, Bool, List, [], ◌∷◌, Option}
 use Rattle.std.proofs.Common.{ap}
 use Rattle.ls_sig.specs.Places.{InnerArm, Place}
 use Rattle.ls_sig.specs.declared.places.Frame.TheVariants as frame

@@ -1,12 +1,8 @@
 -- The previous instant, one instant back; arms, one by one; lists, built item by item.
-use Rattle.std.specs.Prelude.{◌≡◌, ◌≢◌, refl, ℕ, zero, suc, ◌+◌, ◌-◌, ◌<◌, ◌||◌, Bool, true, false, List, [], ◌∷◌, ◌++◌, Option, Some, None, length, map, if◌then◌else◌}
+use Rattle.std.specs.Prelude.{◌≡◌, ◌≢◌, refl, ℕ, zero, suc, ◌+◌, ◌-◌, ◌<◌, Bool, true, false, List, [], ◌∷◌, ◌++◌, Option, Some, None, length, map}
 use Rattle.std.proofs.Common.{ap, sym, ◌∙◌, subst, arith, take, get_or}
 use Rattle.std.proofs.lemmas.Grind.{common_steps}
-use Rattle.ls_sig.specs.Places.{InnerArm}
-use Rattle.kahn_model.specs.declared.definition.Definition.{Definition}
 use Rattle.kahn_model.specs.Rows.{Row, know, previous}
-use Rattle.kahn_model.specs.Search.{count_up, is_empty, lacks_within, outer_block, paths_inside}
-use Rattle.kahn_cells.specs.Paths.{any_arm_lacks, any_empty, count_arms}
 
 one_less : (i : ℕ) → suc i - 1 ≡ i
 one_less i = omega arith

@@ -1,3 +1,4 @@
-pub mod Cells
 pub mod Around
 pub mod Back
+pub mod Written
+pub mod Here

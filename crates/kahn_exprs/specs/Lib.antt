@@ -1,3 +1,4 @@
 pub mod Context
 pub mod Body
 pub mod Memory
+pub mod Rules

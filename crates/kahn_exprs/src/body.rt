@@ -61,24 +61,32 @@ fn same_key(a: Key, b: Key) -> bool
 }
 
 /// The cell of a row at an instant.
-#[tactic(auto, using(crate::proofs::Cells::cell_at))]
+
 pub fn cell_in(cells: &[Option<Cell>], i: usize, alloc: Global) -> Result<Option<Cell>, NoMemory>
     ensures { IfOk result (λ r. r ≡ rows.cell_in cells.now i) }
 {
-    match cells.get(i) {
-        None => Ok(None),
-        Some(c) => copy_known(c, alloc),
+    match cells {
+        [] => Ok(None),
+        [c, rest @ ..] => {
+            if i == 0 {
+                copy_known(c, alloc)
+            } else {
+                cell_in(rest, i - 1, alloc)
+            }
+        }
     }
 }
 
 /// The truth of a row at an instant.
-#[tactic(auto, using(crate::proofs::Cells::cell_at))]
+
 pub fn truth_in(cells: &[Option<bool>], i: usize) -> Option<bool>
     ensures { result ≡ rows.cell_in cells.now i }
 {
-    match cells.get(i) {
-        None => None,
-        Some(c) => *c,
+    match cells {
+        [] => None,
+        [c, rest @ ..] => {
+            if i == 0 { *c } else { truth_in(rest, i - 1) }
+        }
     }
 }
 
@@ -174,7 +182,7 @@ pub fn again(
 }
 
 /// The cell of what stands for a parameter: a function is absent.
-fn stream_cell(arg: &Argument, i: usize, alloc: Global) -> Result<Option<Cell>, NoMemory>
+pub fn stream_cell(arg: &Argument, i: usize, alloc: Global) -> Result<Option<Cell>, NoMemory>
     ensures { IfOk result (λ r. r ≡ row_of (around.arg_of arg.now) i) }
 {
     match arg {

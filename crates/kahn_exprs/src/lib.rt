@@ -8,6 +8,8 @@ mod calls;
 mod context;
 mod expressions;
 mod memory;
+mod rows;
+mod rules;
 
 pub use alarms::{Alarms, alarm_row};
 pub use body::{Body, active, again, cell_in, on, param_cell, read, truth_in};

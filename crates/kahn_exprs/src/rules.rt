@@ -1,0 +1,250 @@
+//! The cell of a form at an instant, by the rows of its parts.
+
+ghost use Rattle.std.specs.Prelude.{◌≡◌, IfOk, Some};
+ghost use Rattle.kahn_exprs.specs.Body as spec;
+ghost use Rattle.kahn_exprs.specs.Rules as own;
+ghost use Rattle.kahn_model.specs.Rows as rows;
+ghost use Rattle.kahn_model.specs.Table as table;
+
+use crate::body::{Body, cell_in};
+use crate::memory::{Pace, last_bound, previous};
+use kahn_cells::cells::{emitted, known_values, value_in};
+use kahn_cells::search::{case_place, case_value};
+use kahn_cells::values::{case_of, eval, nil, tuple};
+use kahn_model::{Cell, Value};
+use ls_ast::{Case, Expr};
+use ls_base::{List, NoMemory};
+use ls_ops::Op;
+use ls_sig::{Binder, Frame, Note};
+use ls_value::Leaf;
+use std::alloc::Global;
+
+/// A form by the rows of its parts.
+#[derive(Clone, Copy)]
+pub enum Rule<'a> {
+    Leaf(Leaf),
+    Case(Binder),
+    Last(Binder),
+    /// `?s`, by the row of s.
+    Asked(&'a [Option<Cell>]),
+    Operator(Op, &'a [List<Option<Cell>>]),
+    Tuple(&'a [List<Option<Cell>>]),
+    Pre(&'a [Option<Cell>]),
+    Fby(&'a [Option<Cell>], &'a [Option<Cell>]),
+    Init(&'a [Option<Cell>], &'a [Option<Cell>]),
+    /// By the row of the condition, and one for each branch.
+    Merge(
+        &'a [Option<Cell>],
+        &'a [(Case, Expr<Note>)],
+        &'a [List<Option<Cell>>],
+    ),
+}
+
+/// The cells of some rows at an instant.
+pub fn column(
+    all: &[List<Option<Cell>>],
+    i: usize,
+    alloc: Global,
+) -> Result<List<Option<Cell>>, NoMemory>
+    ensures { IfOk result (λ r. r ≡ own.column i all.now) }
+{
+    let mut done = List::new(alloc);
+    for cells in all {
+        done.push(cell_in(cells.as_slice(), i, alloc)?)?;
+    }
+    Ok(done)
+}
+
+fn asked_cell(c: Option<Cell>) -> Option<Cell>
+    ensures { result ≡ rows.know c (λ c. Some (spec.asked c)) }
+{
+    match c {
+        None => None,
+        Some(c) => Some(Cell::Present(Value::Leaf(Leaf::Bool(emitted(&c))))),
+    }
+}
+
+fn operator_cell(op: Op, cells: List<Option<Cell>>, alloc: Global) -> Result<Option<Cell>, NoMemory>
+    ensures { IfOk result (λ r. r ≡ rows.know (rows.know_all cells) (λ cs. Some (spec.operated op cs))) }
+{
+    match known_values(cells, alloc)? {
+        None => Ok(None),
+        Some(all) => Ok(Some(Cell::Present(eval(op, all.as_slice(), alloc)?))),
+    }
+}
+
+fn tuple_cell(cells: List<Option<Cell>>, alloc: Global) -> Result<Option<Cell>, NoMemory>
+    ensures { IfOk result (λ r. r ≡ rows.know (rows.know_all cells) (λ cs. Some (spec.tupled cs))) }
+{
+    match known_values(cells, alloc)? {
+        None => Ok(None),
+        Some(all) => Ok(Some(Cell::Present(tuple(all)))),
+    }
+}
+
+fn case_number(body: &Body, case: Case) -> Option<u32>
+    ensures { result ≡ spec.case_number body.now case }
+{
+    match case {
+        Case::True => Some(1),
+        Case::False => Some(0),
+        Case::Of(x) => case_place(body.file, x.0),
+    }
+}
+
+fn is_branch(body: &Body, case: Case, k: u32) -> bool
+    ensures { result ≡ spec.is_branch body.now case k }
+{
+    match case_number(body, case) {
+        Some(j) => j == k,
+        None => false,
+    }
+}
+
+fn branch(
+    body: &Body,
+    k: u32,
+    choices: &[(Case, Expr<Note>)],
+    all: &[List<Option<Cell>>],
+    i: usize,
+    alloc: Global,
+) -> Result<Option<Cell>, NoMemory>
+    ensures { IfOk result (λ r. r ≡ own.branch body.now k choices.now all.now i) }
+{
+    match choices {
+        [] => Ok(Some(Cell::Absent)),
+        [choice, rest @ ..] => match all {
+            [] => Ok(Some(Cell::Absent)),
+            [cells, more @ ..] => {
+                if is_branch(body, choice.0, k) {
+                    cell_in(cells.as_slice(), i, alloc)
+                } else {
+                    branch(body, k, rest, more, i, alloc)
+                }
+            }
+        },
+    }
+}
+
+fn merge_cell(
+    body: &Body,
+    c: Option<Cell>,
+    choices: &[(Case, Expr<Note>)],
+    all: &[List<Option<Cell>>],
+    i: usize,
+    alloc: Global,
+) -> Result<Option<Cell>, NoMemory>
+    ensures { IfOk result (λ r. r ≡ rows.know c (own.merged body.now choices.now all.now i)) }
+{
+    match c {
+        None => Ok(None),
+        Some(c) => match case_of(&value_in(c)) {
+            None => Ok(Some(Cell::Present(nil()))),
+            Some(k) => branch(body, k, choices, all, i, alloc),
+        },
+    }
+}
+
+/// The previous instant of an expression with this note.
+fn before(
+    body: &Body,
+    place: &[Frame],
+    note: &Note,
+    i: usize,
+    alloc: Global,
+) -> Result<Option<Option<usize>>, NoMemory>
+    ensures { IfOk result (λ r. r ≡ own.before body.now place.now note.now i) }
+{
+    previous(body, Pace::Clock(&note.ck), place, i, alloc)
+}
+
+fn pre_cell(
+    at: Option<Option<usize>>,
+    cells: &[Option<Cell>],
+    alloc: Global,
+) -> Result<Option<Cell>, NoMemory>
+    ensures { IfOk result (λ r. r ≡ rows.know at (own.pre_at cells.now)) }
+{
+    match at {
+        None => Ok(None),
+        Some(None) => Ok(Some(Cell::Present(nil()))),
+        Some(Some(j)) => cell_in(cells, j, alloc),
+    }
+}
+
+fn fby_cell(
+    at: Option<Option<usize>>,
+    x: &[Option<Cell>],
+    y: &[Option<Cell>],
+    i: usize,
+    alloc: Global,
+) -> Result<Option<Cell>, NoMemory>
+    ensures { IfOk result (λ r. r ≡ rows.know at (own.fby_at x.now y.now i)) }
+{
+    match at {
+        None => Ok(None),
+        Some(None) => cell_in(x, i, alloc),
+        Some(Some(j)) => cell_in(y, j, alloc),
+    }
+}
+
+fn init_cell(
+    at: Option<Option<usize>>,
+    x: &[Option<Cell>],
+    y: &[Option<Cell>],
+    i: usize,
+    alloc: Global,
+) -> Result<Option<Cell>, NoMemory>
+    ensures { IfOk result (λ r. r ≡ rows.know at (own.init_at x.now y.now i)) }
+{
+    match at {
+        None => Ok(None),
+        Some(None) => cell_in(x, i, alloc),
+        Some(Some(_)) => cell_in(y, i, alloc),
+    }
+}
+
+/// The cell of a form at a place.
+fn rule_cell(
+    body: &Body,
+    place: &[Frame],
+    note: &Note,
+    rule: &Rule,
+    i: usize,
+    alloc: Global,
+) -> Result<Option<Cell>, NoMemory>
+    ensures { IfOk result (λ r. r ≡ own.rule_cell body.now place.now note.now rule.now i) }
+{
+    match rule {
+        Rule::Leaf(leaf) => Ok(Some(Cell::Present(Value::Leaf(*leaf)))),
+        Rule::Case(bound) => Ok(Some(Cell::Present(case_value(*bound)))),
+        Rule::Last(bound) => last_bound(body, *bound, i, alloc),
+        Rule::Asked(cells) => Ok(asked_cell(cell_in(cells, i, alloc)?)),
+        Rule::Operator(op, all) => operator_cell(*op, column(all, i, alloc)?, alloc),
+        Rule::Tuple(all) => tuple_cell(column(all, i, alloc)?, alloc),
+        Rule::Pre(cells) => pre_cell(before(body, place, note, i, alloc)?, cells, alloc),
+        Rule::Fby(x, y) => fby_cell(before(body, place, note, i, alloc)?, x, y, i, alloc),
+        Rule::Init(x, y) => init_cell(before(body, place, note, i, alloc)?, x, y, i, alloc),
+        Rule::Merge(c, choices, all) => {
+            merge_cell(body, cell_in(c, i, alloc)?, choices, all, i, alloc)
+        }
+    }
+}
+
+/// The row of a form at a place.
+#[tactic(auto, using(crate::proofs::Written::one_more))]
+pub fn rule_row(
+    body: &Body,
+    place: &[Frame],
+    note: &Note,
+    rule: &Rule,
+    alloc: Global,
+) -> Result<List<Option<Cell>>, NoMemory>
+    ensures { IfOk result (λ r. r ≡ table.written_row body.now.lines 0 (own.rule_cell body.now place.now note.now rule.now)) }
+{
+    let mut done = List::new(alloc);
+    for i in 0..body.lines {
+        done.push(rule_cell(body, place, note, rule, i as usize, alloc)?)?;
+    }
+    Ok(done)
+}
