@@ -2,3 +2,4 @@ pub mod Context
 pub mod Body
 pub mod Memory
 pub mod Rules
+pub mod Given

@@ -1,7 +1,14 @@
 //! What is around a body, with a cell for each line.
 
+ghost use Rattle.std.specs.Prelude.{◌≡◌, ◌++◌, IfOk, OnOk};
+ghost use Rattle.kahn_exprs.specs.Context as around;
+ghost use Rattle.kahn_exprs.specs.Given as own;
+ghost use Rattle.kahn_model.specs.Functions.{give_args};
+
+use kahn_cells::cells::copy_known;
 use kahn_model::Cell;
-use ls_base::{Boxed, List};
+use ls_base::{Boxed, List, NoMemory};
+use std::alloc::Global;
 
 /// What stands for a parameter.
 #[derive(Debug, Drop)]
@@ -33,4 +40,115 @@ pub struct Context {
     pub again: List<Option<bool>>,
     pub clocks: Clocks,
     pub args: List<Argument>,
+}
+
+/// A copy of a row.
+pub fn copy_cells(cells: &[Option<Cell>], alloc: Global) -> Result<List<Option<Cell>>, NoMemory>
+    ensures { IfOk result (λ r. r ≡ cells.now) }
+{
+    let mut done = List::new(alloc);
+    for c in cells {
+        done.push(copy_known(c, alloc)?)?;
+    }
+    Ok(done)
+}
+
+/// A copy of a row of truths.
+pub fn copy_truths(row: &[Option<bool>], alloc: Global) -> Result<List<Option<bool>>, NoMemory>
+    ensures { IfOk result (λ r. r ≡ row.now) }
+{
+    let mut done = List::new(alloc);
+    for t in row {
+        done.push(*t)?;
+    }
+    Ok(done)
+}
+
+/// A copy of the rows of clock variables.
+pub fn copy_clocks(
+    rows: &[(u32, List<Option<bool>>)],
+    alloc: Global,
+) -> Result<List<(u32, List<Option<bool>>)>, NoMemory>
+    ensures { IfOk result (λ r. r ≡ rows.now) }
+{
+    let mut done = List::new(alloc);
+    for row in rows {
+        done.push((row.0, copy_truths(row.1.as_slice(), alloc)?))?;
+    }
+    Ok(done)
+}
+
+/// A copy of what stands for a parameter.
+pub fn copy_argument(arg: &Argument, alloc: Global) -> Result<Argument, NoMemory>
+    ensures { IfOk result (λ r. r ≡ arg.now) }
+{
+    match arg {
+        Argument::Stream(cells) => Ok(Argument::Stream(copy_cells(cells.as_slice(), alloc)?)),
+        Argument::Function(k, rows) => {
+            Ok(Argument::Function(*k, copy_clocks(rows.as_slice(), alloc)?))
+        }
+        Argument::Pointwise(k) => Ok(Argument::Pointwise(*k)),
+        Argument::Given(f, x) => Ok(Argument::Given(
+            Boxed::new(alloc, copy_argument(f.get(), alloc)?)?,
+            Boxed::new(alloc, copy_argument(x.get(), alloc)?)?,
+        )),
+    }
+}
+
+/// Copies of some arguments after those that are there.
+pub fn add_arguments(
+    args: &[Argument],
+    done: &mut List<Argument>,
+    alloc: Global,
+) -> Result<(), NoMemory>
+    ensures { OnOk result (done.new ≡ done.old ++ args.now) }
+{
+    match args {
+        [] => Ok(()),
+        [arg, rest @ ..] => {
+            done.push(copy_argument(arg, alloc)?)?;
+            add_arguments(rest, done, alloc)
+        }
+    }
+}
+
+/// The function of a function value without the arguments that it was given.
+pub fn base(f: &Argument) -> &Argument
+    ensures { around.arg_of result.now ≡ own.base_of (around.arg_of f.now) }
+{
+    match f {
+        Argument::Given(g, _) => base(g.get()),
+        Argument::Stream(_) => f,
+        Argument::Function(_, _) => f,
+        Argument::Pointwise(_) => f,
+    }
+}
+
+/// Copies of the arguments that a function value was given, the first one first.
+pub fn add_given(f: &Argument, done: &mut List<Argument>, alloc: Global) -> Result<(), NoMemory>
+    ensures { OnOk result (around.args_of done.new ≡ around.args_of done.old ++ own.given_to (around.arg_of f.now)) }
+{
+    match f {
+        Argument::Given(g, x) => {
+            add_given(g.get(), done, alloc)?;
+            done.push(copy_argument(x.get(), alloc)?)?;
+            Ok(())
+        }
+        Argument::Stream(_) => Ok(()),
+        Argument::Function(_, _) => Ok(()),
+        Argument::Pointwise(_) => Ok(()),
+    }
+}
+
+/// A function value with more arguments.
+pub fn give(f: Argument, args: &[Argument], alloc: Global) -> Result<Argument, NoMemory>
+    ensures { IfOk result (λ r. around.arg_of r ≡ give_args (around.arg_of f) (around.args_of args.now)) }
+{
+    match args {
+        [] => Ok(f),
+        [arg, rest @ ..] => {
+            let x = Boxed::new(alloc, copy_argument(arg, alloc)?)?;
+            give(Argument::Given(Boxed::new(alloc, f)?, x), rest, alloc)
+        }
+    }
 }
