@@ -10,7 +10,7 @@ use Rattle.kahn_model.specs.declared.cell.Key.{Key}
 use Rattle.kahn_model.specs.declared.definition.Definition.{Definition}
 use Rattle.kahn_model.specs.Rows.{Row, IsKnown}
 use Rattle.kahn_model.specs.Functions.{Arg, stream, def, given, Around, Meaning}
-use Rattle.kahn_model.specs.Order.{ArgBelow, ArgsBelow, AroundBelow, ClocksBelow, Monotone, TableBelow}
+use Rattle.kahn_model.specs.Order.{AroundBelow, Monotone, RowsBelow, TableBelow}
 use Rattle.kahn_model.specs.Fullness.{All, Full, HasKey}
 use Rattle.kahn_model.specs.Causality.{AroundTo, Causal, InTable, Rises, Sound, SoundBody, body_calls}
 use Rattle.kahn_model.specs.Search.{E, nth}
@@ -24,33 +24,16 @@ use Rattle.kahn_model.proofs.Below.{below_refl}
 use Rattle.kahn_model.proofs.Causal.{full_table, known_to}
 use Rattle.kahn_model.proofs.Filling.{key_same}
 use Rattle.kahn_model.proofs.Knowing.{know_known, some_known, all_left, all_map, all_right}
-use Rattle.kahn_model.proofs.Monotone.{turn_below}
+use Rattle.kahn_model.proofs.ByRows.{around_same}
+use Rattle.kahn_model.proofs.Everywhere.{turn_below}
 use Rattle.kahn_model.proofs.Needed.{MetBy, met_by, Kn, Met, Up}
 use Rattle.kahn_model.proofs.Presence.{all_joined, all_under}
 use Rattle.kahn_model.proofs.Rising.{answer_known, turn_known}
 use Rattle.kahn_model.proofs.Solutions.{meaning_monotone, only_solution}
 
 -- what is around a body lies below itself
-refl_clocks : (c : Option (ℕ → Row Bool)) → ClocksBelow c c
-refl_clocks None = tt
-refl_clocks (Some f) = λ w i. below_refl (f w i)
-
-refl_arg : (x : Arg) → ArgBelow x x
-refl_arg (stream r) = λ i. below_refl (r i)
-refl_arg (def k c) = (refl, refl_clocks c)
-refl_arg (given f x) = (refl_arg f, refl_arg x)
-
-refl_args : (xs : List Arg) → ArgsBelow xs xs
-refl_args [] = tt
-refl_args (x ∷ xs) = (refl_arg x, refl_args xs)
-
 pub refl_around : (a : Around) → AroundBelow a a
-refl_around a = record {
-  active = λ i. below_refl (a.active i);
-  again = λ i. below_refl (a.again i);
-  clocks = λ w i. below_refl (a.clocks w i);
-  args = refl_args a.args;
-}
+refl_around = around_same RowsBelow (λ A r i. below_refl (r i))
 
 -- what holds of the calls of all rows holds of those of each
 pub of_row : (P : Call → Type 0) (f : Key → List Call) (ks : List Key) (k : Key) → All (λ l. All P (f l)) ks → HasKey k ks → All P (f k)

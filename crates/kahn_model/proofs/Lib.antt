@@ -1,6 +1,9 @@
 pub mod Below
 pub mod Related
+pub mod ByRows
+pub mod Within
 pub mod Monotone
+pub mod Everywhere
 pub mod Solutions
 pub mod Filling
 pub mod Causal
@@ -16,3 +19,4 @@ pub mod Prefix
 pub mod AlarmBelow
 pub mod AlarmKnown
 pub mod AnyShapes
+pub mod Alike
