@@ -1,7 +1,7 @@
 -- What lies below what: the laws of `know` and the other words of Rows.
-use Rattle.std.specs.Prelude.{◌≡◌, refl, ℕ, zero, suc, Bool, true, false, List, [], ◌∷◌, Option, Some, None}
+use Rattle.std.specs.Prelude.{◌≡◌, refl, ℕ, Bool, true, false, List, [], ◌∷◌, Option, Some, None}
 use Rattle.std.proofs.Common.{ap, sym, ◌∙◌}
-use Rattle.kahn_model.specs.Rows.{Below, Row, RowBelow, both, either, know, know_all, previous}
+use Rattle.kahn_model.specs.Rows.{Below, both, either, know, know_all}
 
 pub below_refl : {A : Type 0} (a : Option A) → Below a a
 below_refl a x e = e

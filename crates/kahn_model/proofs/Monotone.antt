@@ -1,4 +1,5 @@
--- A turn is monotone: in the table, and in what is around the body.
+-- A turn is monotone: in the table, and in what is around the body. What is known of these at the instants of a set that has
+-- with each instant all before it is known of what the turn gives at the instants of this set.
 use Rattle.std.specs.Prelude.{◌≡◌, refl, ℕ, zero, suc, ◌+◌, ◌-◌, Bool, true, false, List, [], ◌∷◌, ◌++◌, map, length, Option, Some, None, unwrap_or, option_map, if◌then◌else◌, nat_lt}
 use Rattle.std.proofs.Common.{ap, ap₂, sym, ◌∙◌, subst}
 use Rattle.kahn_model.proofs.Below.{AllBelow, below_refl, both_below, either_below, know_all_below, know_below, none_below}
