@@ -1,7 +1,7 @@
 -- What lies below what: the laws of `know` and the other words of Rows.
-use Rattle.std.specs.Prelude.{◌≡◌, refl, ℕ, zero, suc, Bool, true, false, List, [], ◌∷◌, Option, Some, None}
+use Rattle.std.specs.Prelude.{◌≡◌, refl, ℕ, Bool, true, false, List, [], ◌∷◌, Option, Some, None}
 use Rattle.std.proofs.Common.{ap, sym, ◌∙◌}
-use Rattle.kahn_model.specs.Rows.{Below, Row, RowBelow, both, either, know, know_all, previous}
+use Rattle.kahn_model.specs.Rows.{Below, both, either, know, know_all}
 
 pub below_refl : {A : Type 0} (a : Option A) → Below a a
 below_refl a x e = e
@@ -27,6 +27,10 @@ full_is a b x p e = p x e ∙ sym e
 pub know_below : {A B : Type 0} (a b : Option A) (f g : A → Option B) → Below a b → ((x : A) → Below (f x) (g x)) → Below (know a f) (know b g)
 know_below None b f g p q y e = none_some y e
 know_below (Some x) b f g p q y e = ap (λ o. know o g) (p x refl) ∙ q x y e
+
+pub know_below_at : {A B : Type 0} (a b : Option A) (f g : A → Option B) → Below a b → ((x : A) → a ≡ Some x → Below (f x) (g x)) → Below (know a f) (know b g)
+know_below_at None b f g p q y e = none_some y e
+know_below_at (Some x) b f g p q y e = ap (λ o. know o g) (p x refl) ∙ q x refl y e
 
 pub either_yes : (a : Option Bool) → either a (Some true) ≡ Some true
 either_yes (Some true) = refl
@@ -80,9 +84,3 @@ search_on_below i a b p false = p
 pub search_below : (i : ℕ) (on on' : Option Bool) (a b : Option (Option ℕ)) → Below on on' → Below a b → (restart : Bool) → Below (search_step i on a restart) (search_step i on' b restart)
 search_below i on on' a b p q true = below_refl (Some None)
 search_below i on on' a b p q false = know_below on on' (search_on i a) (search_on i b) p (search_on_below i a b q)
-
-pub previous_below : (on on' again again' : Row Bool) → RowBelow on on' → RowBelow again again' → (i : ℕ) → Below (previous on again i) (previous on' again' i)
-previous_below on on' again again' p q zero = below_refl (Some None)
-previous_below on on' again again' p q (suc i) =
-    know_below (again (suc i)) (again' (suc i)) (search_step i (on i) (previous on again i)) (search_step i (on' i) (previous on' again' i)) (q (suc i))
-    (search_below i (on i) (on' i) (previous on again i) (previous on' again' i) (p i) (previous_below on on' again again' p q i))

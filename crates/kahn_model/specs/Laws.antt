@@ -7,7 +7,8 @@ use Rattle.kahn_model.specs.Rows.{Row, RowBelow, IsKnown}
 use Rattle.kahn_model.specs.Functions.{Arg, Around, Meaning}
 use Rattle.kahn_model.specs.Turn.{Table, turn}
 use Rattle.kahn_model.specs.Table.{Rows, read, written, row_keys, Solution, table, table_of, meaning, network}
-use Rattle.kahn_model.specs.Alarm.{network_alarm}
+use Rattle.kahn_model.specs.Alarm.{alarms, network_alarm}
+use Rattle.kahn_model.specs.Alike.{MeaningAlike}
 use Rattle.kahn_model.specs.Order.{ArgsBelow, AroundBelow, TableBelow, Monotone}
 use Rattle.kahn_model.specs.Fullness.{All, Full, HasKey}
 use Rattle.kahn_model.specs.Reads.{Shape, shapes_of}
@@ -145,3 +146,13 @@ CausalAlike = (d : Definition) (shapes others : List Shape) → Causal d shapes 
 -- where all definitions are causal, what remains is how deep the calls nest
 abbrev pub SoundByNesting : Type 0
 SoundByNesting = (defs : List Definition) → AllCausal defs → (depth k : ℕ) (shapes : List Shape) → Nests defs depth k shapes → Sound defs depth k shapes
+
+-- ---- the lines alone
+
+-- the meaning of a definition on n lines goes by what is around it at these lines alone
+abbrev pub MeaningByLines : Type 0
+MeaningByLines = (cases : ℕ → Option ℕ) (defs : List Definition) (n depth : ℕ) → MeaningAlike n (meaning cases defs n depth) (meaning cases defs n depth)
+
+-- so does whether its lines are alarmed
+abbrev pub AlarmsByLines : Type 0
+AlarmsByLines = (cases : ℕ → Option ℕ) (defs : List Definition) (n depth : ℕ) → MeaningAlike n (alarms cases defs n depth) (alarms cases defs n depth)

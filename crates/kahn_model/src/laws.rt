@@ -1,6 +1,6 @@
 //! Laws of the model: each function has an empty body and a law as its contract.
 
-ghost use Rattle.kahn_model.specs.Laws.{RowsReflexive, RowsTransitive, RowsAntisymmetric, TurnMonotone, MeaningMonotone, FullSolves, FullOnly, RisingKnown, RisingFull, MeaningKnown, BodyKnown, BodyFull, BodyOnly, NetworkKnown, MoreLines, EarlierLinesAlone, AlarmsKnown, EarlierAlarmsAlone, SolutionByCells, CellsOfSolution, CausalAlike, SoundByNesting};
+ghost use Rattle.kahn_model.specs.Laws.{RowsReflexive, RowsTransitive, RowsAntisymmetric, TurnMonotone, MeaningMonotone, FullSolves, FullOnly, RisingKnown, RisingFull, MeaningKnown, BodyKnown, BodyFull, BodyOnly, NetworkKnown, MoreLines, EarlierLinesAlone, AlarmsKnown, EarlierAlarmsAlone, SolutionByCells, CellsOfSolution, CausalAlike, SoundByNesting, MeaningByLines, AlarmsByLines};
 
 /// What is known of rows is a partial order.
 pub fn rows_are_ordered()
@@ -57,4 +57,12 @@ pub fn solutions_go_by_cells()
 pub fn causality_goes_by_definitions()
     ensures alike { CausalAlike }
     ensures nesting { SoundByNesting }
+{}
+
+/// The meaning of a definition on n lines, and its alarms, go by what is around it at these lines
+/// alone: where two contexts are the same below n, the two results are the same below n, known or
+/// not. So rows that are kept for n lines stand for the rows of any longer input.
+pub fn meanings_go_by_their_lines()
+    ensures meaning { MeaningByLines }
+    ensures alarms { AlarmsByLines }
 {}
