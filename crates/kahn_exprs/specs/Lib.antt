@@ -3,3 +3,6 @@ pub mod Body
 pub mod Memory
 pub mod Rules
 pub mod Given
+pub mod Instance
+pub mod Streams
+pub mod Calls

@@ -29,7 +29,7 @@ pub struct Body<'a> {
     pub rows: &'a [(Key, List<Option<Cell>>)],
 }
 
-fn same_key(a: Key, b: Key) -> bool
+pub fn same_key(a: Key, b: Key) -> bool
     ensures { result ≡ rows.same_key a b }
 {
     match a {

@@ -7,9 +7,11 @@ mod body;
 mod calls;
 mod context;
 mod expressions;
+mod instance;
 mod memory;
 mod rows;
 mod rules;
+mod streams;
 
 pub use alarms::{Alarms, alarm_row};
 pub use body::{Body, active, again, cell_in, on, param_cell, read, truth_in};
