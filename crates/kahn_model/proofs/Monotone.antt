@@ -71,62 +71,46 @@ module _ (In : ℕ → Type 0) (down : (i : ℕ) → In (suc i) → In i) where
   row_below (stream r) (stream s) p = p
   row_below (def k c) (def l d) p = λ i h x e. e
   row_below (given f x) (given g y) p = λ i h x e. e
-  row_below (stream r) (def l d) p = absurd p
-  row_below (stream r) (given g y) p = absurd p
-  row_below (def k c) (stream s) p = absurd p
-  row_below (def k c) (given g y) p = absurd p
-  row_below (given f x) (stream s) p = absurd p
-  row_below (given f x) (def l d) p = absurd p
+  row_below _ _ p = absurd p
 
   pub part_below : (p : Pat) (x : ℕ) (f g : Arg) → ArgIn In f g → ArgIn In (part_arg p x f) (part_arg p x g)
   part_below p x (stream r) (stream s) q = λ i h. know_below (r i) (s i) (λ c. Some (part p x c)) (λ c. Some (part p x c)) (q i h) (λ c. below_refl (Some (part p x c)))
   part_below p x (def k c) (def l d) q = q
   part_below p x (given f g) (given f' g') q = q
-  part_below p x (stream r) (def l d) q = absurd q
-  part_below p x (stream r) (given g y) q = absurd q
-  part_below p x (def k c) (stream s) q = absurd q
-  part_below p x (def k c) (given g y) q = absurd q
-  part_below p x (given f y) (stream s) q = absurd q
-  part_below p x (given f y) (def l d) q = absurd q
+  part_below p x _ _ q = absurd q
 
   pub param_below : (x : ℕ) (ps : List Pat) (fs gs : List Arg) → ArgsIn In fs gs → ArgIn In (param_in x ps fs) (param_in x ps gs)
   param_below x [] fs gs q = λ i h x e. e
   param_below x (p ∷ ps) [] [] q = λ i h x e. e
   param_below x (p ∷ ps) (f ∷ fs) (g ∷ gs) q =
       if_rel (ArgIn In) (has_name x (names_of p)) (part_arg p x f) (part_arg p x g) (param_in x ps fs) (param_in x ps gs) (part_below p x f g q.0) (param_below x ps fs gs q.1)
-  param_below x (p ∷ ps) [] (g ∷ gs) q = absurd q
-  param_below x (p ∷ ps) (f ∷ fs) [] q = absurd q
+  param_below x _ _ _ q = absurd q
 
   pub arg_at_below : (k : ℕ) (fs gs : List Arg) → ArgsIn In fs gs → ArgIn In (arg_at k fs) (arg_at k gs)
   arg_at_below k [] [] q = λ i h x e. e
   arg_at_below zero (f ∷ fs) (g ∷ gs) q = q.0
   arg_at_below (suc k) (f ∷ fs) (g ∷ gs) q = arg_at_below k fs gs q.1
-  arg_at_below k [] (g ∷ gs) q = absurd q
-  arg_at_below k (f ∷ fs) [] q = absurd q
+  arg_at_below k _ _ q = absurd q
 
   pub cells_below : (i : ℕ) → In i → (xs ys : List Said) → SaidsBelow xs ys → AllBelow (cells_at i xs) (cells_at i ys)
   cells_below i h [] [] q = tt
   cells_below i h (x ∷ xs) (y ∷ ys) q = (row_below x.arg y.arg q.0.1 i h, cells_below i h xs ys q.1)
-  cells_below i h [] (y ∷ ys) q = absurd q
-  cells_below i h (x ∷ xs) [] q = absurd q
+  cells_below i h _ _ q = absurd q
 
   pub args_below : (xs ys : List Said) → SaidsBelow xs ys → ArgsIn In (args_said xs) (args_said ys)
   args_below [] [] q = tt
   args_below (x ∷ xs) (y ∷ ys) q = (q.0.1, args_below xs ys q.1)
-  args_below [] (y ∷ ys) q = absurd q
-  args_below (x ∷ xs) [] q = absurd q
+  args_below _ _ q = absurd q
 
   pub clocks_same : (xs ys : List Said) → SaidsBelow xs ys → clocks_said xs ≡ clocks_said ys
   clocks_same [] [] q = refl
   clocks_same (x ∷ xs) (y ∷ ys) q = ap₂ (λ (n : Note) ns. n.ck ∷ ns) q.0.0 (clocks_same xs ys q.1)
-  clocks_same [] (y ∷ ys) q = absurd q
-  clocks_same (x ∷ xs) [] q = absurd q
+  clocks_same _ _ q = absurd q
 
   pub give_below : (f g : Arg) (xs ys : List Arg) → ArgIn In f g → ArgsIn In xs ys → ArgIn In (Functions.give_args f xs) (Functions.give_args g ys)
   give_below f g [] [] p q = p
   give_below f g (x ∷ xs) (y ∷ ys) p q = give_below (given f x) (given g y) xs ys (p, q.0) q.1
-  give_below f g [] (y ∷ ys) p q = absurd q
-  give_below f g (x ∷ xs) [] p q = absurd q
+  give_below f g _ _ p q = absurd q
 
   module _ (cases : ℕ → Option ℕ) (defs : List Definition) (call call' : Meaning) (mono : MeaningIn In call call') (d : Definition)
       (a a' : Around) (ab : AroundIn In a a') (T T' : Table) (tb : TableIn In T T') where
@@ -256,8 +240,7 @@ module _ (In : ℕ → Type 0) (down : (i : ℕ) → In (suc i) → In i) where
     own_or_below : (c c' : Option (ℕ → Row Bool)) (h h' : Row Bool) → ClocksIn In c c' → RowIn In h h' → (w : ℕ) → RowIn In (unwrap_or c (λ w. h) w) (unwrap_or c' (λ w. h') w)
     own_or_below None None h h' p q w = q
     own_or_below (Some f) (Some g) h h' p q w = p w
-    own_or_below None (Some g) h h' p q w = absurd p
-    own_or_below (Some f) None h h' p q w = absurd p
+    own_or_below _ _ h h' p q w = absurd p
 
     pub apply_below : (f f' : Arg) (xs xs' : List Arg) (h h' act act' rst rst' : Row Bool) → ArgIn In f f' → ArgsIn In xs xs' → RowIn In h h' → RowIn In act act' → RowIn In rst rst'
         → RowIn In (Turn.apply cases defs call d a T f xs h act rst) (Turn.apply cases defs call' d a' T' f' xs' h' act' rst')
@@ -267,12 +250,7 @@ module _ (In : ℕ → Type 0) (down : (i : ℕ) → In (suc i) → In i) where
         (mono k (record { active = act; again = rst; clocks = unwrap_or c (λ w. h); args = xs }) (record { active = act'; again = rst'; clocks = unwrap_or c' (λ w. h'); args = xs' })
         (record { active = g; again = z; clocks = own_or_below c c' h h' p.1 e; args = q }))
     apply_below (given f x) (given f' x') xs xs' h h' act act' rst rst' p q e g z = apply_below f f' (x ∷ xs) (x' ∷ xs') h h' act act' rst rst' p.0 (p.1, q) e g z
-    apply_below (stream r) (def l c') xs xs' h h' act act' rst rst' p q e g z = absurd p
-    apply_below (stream r) (given f' x') xs xs' h h' act act' rst rst' p q e g z = absurd p
-    apply_below (def k c) (stream s) xs xs' h h' act act' rst rst' p q e g z = absurd p
-    apply_below (def k c) (given f' x') xs xs' h h' act act' rst rst' p q e g z = absurd p
-    apply_below (given f x) (stream s) xs xs' h h' act act' rst rst' p q e g z = absurd p
-    apply_below (given f x) (def l c') xs xs' h h' act act' rst rst' p q e g z = absurd p
+    apply_below _ _ xs xs' h h' act act' rst rst' p q e g z = absurd p
 
     abbrev pub EveryBelow : Option Said → Option Said → Type 0
     EveryBelow None None = Unit {0}
@@ -283,8 +261,7 @@ module _ (In : ℕ → Type 0) (down : (i : ℕ) → In (suc i) → In i) where
     every_below r r' None None p q = p
     every_below r r' (Some s) (Some t) p q = λ i h. either_below (r i) (r' i) (say is_yes (row_of s.arg i)) (say is_yes (row_of t.arg i)) (p i h)
         (say_below is_yes (row_of s.arg i) (row_of t.arg i) (row_below s.arg t.arg q.1 i h))
-    every_below r r' None (Some t) p q = absurd q
-    every_below r r' (Some s) None p q = absurd q
+    every_below r r' _ _ p q = absurd q
 
     called_below : (act act' rst rst' : Row Bool) (n : Note) (f f' : Arg) (xs ys : List Said) (s t : Option Said) → RowIn In act act' → RowIn In rst rst' → ArgIn In f f' → SaidsBelow xs ys → EveryBelow s t
         → ArgIn In (Turn.called cases defs call d a T act rst n f xs s) (Turn.called cases defs call' d a' T' act' rst' n f' ys t)
@@ -317,8 +294,7 @@ module _ (In : ℕ → Type 0) (down : (i : ℕ) → In (suc i) → In i) where
     branch_below k (x ∷ xs) (y ∷ ys) q = subst (λ c. RowIn In (Turn.branch cases defs call d a T k (x ∷ xs)) (Turn.branch cases defs call' d a' T' k ((c, y.1) ∷ ys))) q.0.0
         (if_rel (RowIn In) (unwrap_or (option_map (λ j. Search.same_number j k) (Turn.case_number cases defs call d a T x.0)) false) (row_of x.1.arg) (row_of y.1.arg)
         (Turn.branch cases defs call d a T k xs) (Turn.branch cases defs call' d a' T' k ys) (row_below x.1.arg y.1.arg q.0.1.1) (branch_below k xs ys q.1))
-    branch_below k [] (y ∷ ys) q = absurd q
-    branch_below k (x ∷ xs) [] q = absurd q
+    branch_below k _ _ q = absurd q
 
     merged_below : (xs ys : Choices) → ChoicesBelow xs ys → (i : ℕ) → In i → (o : Option ℕ) → Below (Turn.merged_case cases defs call d a T xs i o) (Turn.merged_case cases defs call' d a' T' ys i o)
     merged_below xs ys q i h None = below_refl (Some (Present nil))
@@ -328,12 +304,7 @@ module _ (In : ℕ → Type 0) (down : (i : ℕ) → In (suc i) → In i) where
     on_clock_below n (stream r) (stream s) p = λ i h. at_below (Turn.on cases defs call d a T n.ck i) (Turn.on cases defs call' d a' T' n.ck i) (r i) (s i) (on_below n.ck i h) (p i h)
     on_clock_below n (def k c) (def l e) p = p
     on_clock_below n (given f x) (given g y) p = p
-    on_clock_below n (stream r) (def l e) p = absurd p
-    on_clock_below n (stream r) (given g y) p = absurd p
-    on_clock_below n (def k c) (stream s) p = absurd p
-    on_clock_below n (def k c) (given g y) p = absurd p
-    on_clock_below n (given f x) (stream s) p = absurd p
-    on_clock_below n (given f x) (def l e) p = absurd p
+    on_clock_below n _ _ p = absurd p
 
     abbrev pub RelF : (Note → Arg) → (Note → Arg) → Type 0
     RelF f g = (n : Note) → ArgIn In (f n) (g n)
