@@ -6,3 +6,4 @@ pub mod Given
 pub mod Instance
 pub mod Streams
 pub mod Calls
+pub mod Values

@@ -1,4 +1,4 @@
-use Rattle.std.specs.Prelude.{Some, ◌++◌}
+use Rattle.std.specs.Prelude.{Some}
 use Rattle.std.proofs.Common.{◌∙◌, ap, sym}
 use Rattle.kahn_model.specs.Table.{cell_in}
 use Rattle.kahn_exprs.specs.declared.context.Clocks.TheVariants as clocks
@@ -11,7 +11,7 @@ pub returns-in_ok-copy_clocks-in-Function : goal.returns-in_ok-copy_clocks-in-Fu
 returns-in_ok-copy_clocks-in-Function c =
     let done = c.add_arguments.new.done in
     let all = all_given (around.arg_of c.args.f.now) c.args.args.now c.new-all.result c.add_given.new.done done c.new-all.ensures c.in_ok-add_given.ensures c.in_ok-add_arguments.ensures in
-    let base = sym (arg_function c.in-Function.k c.in-Function.rows) ∙ ap around.arg_of (sym c.in-Function.is) ∙ c.base.ensures in
+    let base = sym (arg_function c.in-Function.k c.in-Function.known) ∙ ap around.arg_of (sym c.in-Function.is) ∙ c.base.ensures in
     ap (λ z. Some (own.place_of (c.in-Function.k, record { active = c.args.active; again = c.args.again; clocks = clocks.Each z; args = done })))
     (c.in_ok-copy_clocks-in-Function.ensures ∙ c.as_slice.ensures.value)
     ∙ from_parts (cell_in c.args.here) (cell_in c.args.active) (cell_in c.args.again) (around.arg_of c.args.f.now) _ (around.args_of c.args.args.now) (around.args_of done) base all
