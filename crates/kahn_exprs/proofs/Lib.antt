@@ -5,3 +5,8 @@ pub mod Here
 pub mod Found
 pub mod Meeting
 pub mod Targets
+pub mod Instances
+pub mod Names
+pub mod Calling
+pub mod FormsAlike
+pub mod ValuesAlike

@@ -1,5 +1,5 @@
 -- Calls by rows that are written down.
-use Rattle.std.specs.Prelude.{ℕ, Bool, List, [], ◌∷◌, Option, Some, None, if◌then◌else◌, unwrap_or}
+use Rattle.std.specs.Prelude.{ℕ, Bool, List, ◌∷◌, Option, Some, None, if◌then◌else◌, unwrap_or}
 use Rattle.ls_sig.specs.Places.{Place}
 use Rattle.ls_sig.specs.declared.binder.Note.{Note}
 use Rattle.kahn_model.specs.declared.cell.Cell.{Cell}

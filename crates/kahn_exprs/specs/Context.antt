@@ -12,7 +12,7 @@ use Rattle.kahn_exprs.specs.declared.context.Context.{Context}
 -- the row of a clock variable among some; no other is on
 abbrev pub clock_in : List (ℕ × List (Option Bool)) → ℕ → Row Bool
 clock_in [] w i = Some false
-clock_in (r ∷ rows) w i = if r.0 == w then cell_in r.1 i else clock_in rows w i
+clock_in (r ∷ rows) w i = if w == r.0 then cell_in r.1 i else clock_in rows w i
 
 abbrev pub clocks_of : Clocks → ℕ → Row Bool
 clocks_of (clocks.Each rows) w = clock_in rows w

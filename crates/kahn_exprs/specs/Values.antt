@@ -9,7 +9,7 @@ use Rattle.ls_sig.specs.declared.binder.Note.{Note}
 use Rattle.kahn_model.specs.declared.cell.Cell.{Cell}
 use Rattle.kahn_model.specs.Cells.{at}
 use Rattle.kahn_model.specs.Functions.{Arg, stream, row_of}
-use Rattle.kahn_model.specs.Table.{cell_in, written_row}
+use Rattle.kahn_model.specs.Table.{written_row}
 use Rattle.kahn_exprs.specs.declared.body.Body.{Body}
 use Rattle.kahn_exprs.specs.declared.rules.Rule.{Rule}
 use Rattle.kahn_exprs.specs.Body as spec

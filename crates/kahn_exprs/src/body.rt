@@ -285,7 +285,7 @@ fn clock_in(rows: &[(u32, List<Option<bool>>)], w: u32, i: usize) -> Option<bool
     match rows {
         [] => Some(false),
         [row, rest @ ..] => {
-            if row.0 == w {
+            if w == row.0 {
                 truth_in(row.1.as_slice(), i)
             } else {
                 clock_in(rest, w, i)
