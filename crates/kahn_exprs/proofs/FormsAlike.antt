@@ -102,7 +102,7 @@ module _ (b : Body) (p : Place) where
   column_alike [] i l = refl
   column_alike (e ∷ args) i l = ap (λ z. z ∷ own.column i (val.rows b p args)) (written_alike b.lines (spec.cell b p e) i l) ∙ ap (λ z. spec.cell b p e i ∷ z) (column_alike args i l)
 
-  in_column : (args : List (Expr Note)) (all : List own.Cells) (i : ℕ) → all ≡ val.rows b p args → i < b.lines → own.column i all ≡ cells_at i (map (spec.said b p) args)
+  pub in_column : (args : List (Expr Note)) (all : List own.Cells) (i : ℕ) → all ≡ val.rows b p args → i < b.lines → own.column i all ≡ cells_at i (map (spec.said b p) args)
   in_column args all i e l = ap (own.column i) e ∙ column_alike args i l
 
   by_case : (t : Bool) (c : Option Cell) (r s : Row Cell) (c' : Option Cell) (i : ℕ) → c ≡ r i → c' ≡ s i → (if t then c else c') ≡ (if t then r else s) i
@@ -127,7 +127,7 @@ module _ (b : Body) (p : Place) where
   pub said_is : (e : Expr Note) → spec.said b p e ≡ expr_step (record { note = e.note; form = spec.said_form b p e.form })
   said_is e = fold-roll-Expr Note (Note → Arg) Said step expr_step (record { note = e.note; form = e.form })
 
-  clocks_same : (args : List (Expr Note)) → clocks_noted args ≡ clocks_said (map (spec.said b p) args)
+  pub clocks_same : (args : List (Expr Note)) → clocks_noted args ≡ clocks_said (map (spec.said b p) args)
   clocks_same [] = refl
   clocks_same (e ∷ args) = ap (λ z. e.note.ck ∷ z) (clocks_same args) ∙ sym (ap (λ (z : Said). z.note.ck ∷ clocks_said (map (spec.said b p) args)) (said_is e))
 
@@ -136,7 +136,7 @@ module _ (b : Body) (p : Place) where
   call_layer run x args None = ap (spec.said_form b p) (sym (form.rolls-Call run x args None)) ∙ fold-roll-Form Note (Note → Arg) Said step expr_step (Form-F.Call run x args None)
   call_layer run x args (Some e) = ap (spec.said_form b p) (sym (form.rolls-Call run x args (Some e))) ∙ fold-roll-Form Note (Note → Arg) Said step expr_step (Form-F.Call run x args (Some e))
 
-  every_alike : (every : Option (Expr Note)) (restarts : Option own.Cells) → restarts ≡ option_map (val.row b p) every → EveryAlike b.lines restarts (option_map (spec.said b p) every)
+  pub every_alike : (every : Option (Expr Note)) (restarts : Option own.Cells) → restarts ≡ option_map (val.row b p) every → EveryAlike b.lines restarts (option_map (spec.said b p) every)
   every_alike None restarts e = subst (λ z. EveryAlike b.lines z None) (sym e) tt
   every_alike (Some x) restarts e = subst (λ z. EveryAlike b.lines z (Some (spec.said b p x))) (sym e) (written_alike b.lines (spec.cell b p x))
 

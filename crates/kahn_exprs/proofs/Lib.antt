@@ -10,3 +10,5 @@ pub mod Names
 pub mod Calling
 pub mod FormsAlike
 pub mod ValuesAlike
+pub mod Heard
+pub mod AlarmsAlike

@@ -7,3 +7,4 @@ pub mod Instance
 pub mod Streams
 pub mod Calls
 pub mod Values
+pub mod Alarms
