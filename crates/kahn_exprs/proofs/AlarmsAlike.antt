@@ -1,6 +1,6 @@
 -- Alarms by rows that are written down are those of the network, below the number of lines.
 use Rattle.std.specs.Prelude.{◌≡◌, refl, ℕ, ◌+◌, ◌<◌, Bool, true, false, List, [], ◌∷◌, ◌++◌, map, length, Option, Some, None, option_map, Result, Ok, Err, IfOk, if◌then◌else◌, get_or, take}
-use Rattle.std.proofs.Common.{Bor, ap, sym, ◌∙◌, subst}
+use Rattle.std.proofs.Common.{ap, sym, ◌∙◌, subst}
 use Rattle.ls_base.specs.declared.Name.{Name}
 use Rattle.ls_ast.specs.declared.tree.Case.{Case}
 use Rattle.ls_ast.specs.declared.tree.Expr.{Expr}
@@ -17,7 +17,8 @@ use Rattle.kahn_model.specs.Alarm
 use Rattle.kahn_model.specs.Alarm.{Heard, HeardForm, any_of, parts_alarm}
 use Rattle.kahn_model.specs.Alike.{ArgAlike, ArgsAlike, RowAlike}
 use Rattle.kahn_model.specs.Cells.{is_yes, say, values_in}
-use Rattle.kahn_model.specs.Clocks.{form_parts, is_function}
+use Rattle.kahn_model.specs.Clocks.{choice_parts, form_parts, is_function, option_part}
+use Rattle.kahn_model.proofs.Related.{in_choices}
 use Rattle.kahn_model.specs.Functions.{Arg, Said, args_said, cells_at, clocks_said}
 use Rattle.kahn_model.specs.Rows.{Row, both, either, know, know_all}
 use Rattle.kahn_model.specs.Table.{cell_in, written_row}
@@ -29,7 +30,7 @@ use Rattle.kahn_exprs.specs.Alarms as own
 use Rattle.kahn_exprs.specs.Body as spec
 use Rattle.kahn_exprs.specs.Calls.{target_at, target_row}
 use Rattle.kahn_exprs.specs.Instance.{clocks_noted, head, head_at}
-use Rattle.kahn_exprs.specs.Rules.{Cells, column}
+use Rattle.kahn_exprs.specs.Rules.{Cells}
 use Rattle.kahn_exprs.specs.Values as val
 use Rattle.kahn_exprs.proofs.Calling.{EveryAlike, target_alike}
 use Rattle.kahn_exprs.proofs.FormsAlike.{clocks_same, every_alike, in_column}
@@ -156,3 +157,53 @@ module _ (b : Body) (p : Place) where
       ∙ ap (λ z. either (own.own_alarm b p f e.note i) (any_of z)) (truths (form_parts (own.layer b p f)) i l)
       ∙ sym (ap (λ (z : Row Bool). z i) (heard_is b p e) ∙ sym (ap (λ z. (own.heard_form b p z e.note).1 i) same)
       ∙ ap (λ (z : HeardForm). (z e.note).1 i) (fold_out-Form Note HeardForm Heard _ _ f)))
+
+  pub listed : (args slice : List (Expr Note)) (old new : List own.Truths) → slice ≡ args → old ≡ [] → new ≡ old ++ own.alarm_rows b p slice → new ≡ map (own.heard_row b p) (map (own.heard b p) args)
+  listed args slice old new same none e = e ∙ ap (λ z. z ++ own.alarm_rows b p slice) none ∙ ap (own.alarm_rows b p) same ∙ rows_are args
+
+  branches_are : (choices : List (Case × Expr Note)) → own.branch_alarms b p choices ≡ map (own.heard_row b p) (choice_parts (in_choices (own.heard b p) choices))
+  branches_are [] = refl
+  branches_are (c ∷ choices) = ap (λ z. own.alarm_row b p c.1 ∷ z) (branches_are choices)
+
+  pub branched : (choices slice : List (Case × Expr Note)) (old new : List own.Truths) → slice ≡ choices → old ≡ [] → new ≡ old ++ own.branch_alarms b p slice
+      → new ≡ map (own.heard_row b p) (choice_parts (in_choices (own.heard b p) choices))
+  branched choices slice old new same none e = e ∙ ap (λ z. z ++ own.branch_alarms b p slice) none ∙ ap (own.branch_alarms b p) same ∙ branches_are choices
+
+  pub one_part : (e : Expr Note) (old new : List own.Truths) (row : own.Truths) → old ≡ [] → row ≡ own.alarm_row b p e → new ≡ old ++ row ∷ [] → new ≡ own.alarm_row b p e ∷ []
+  one_part e old new row none is next = next ∙ ap (λ z. z ++ row ∷ []) none ∙ ap (λ z. z ∷ []) is
+
+  pub two_parts : (x y : Expr Note) (old mid new : List own.Truths) (r s : own.Truths) → old ≡ [] → r ≡ own.alarm_row b p x → mid ≡ old ++ r ∷ [] → s ≡ own.alarm_row b p y → new ≡ mid ++ s ∷ []
+      → new ≡ own.alarm_row b p x ∷ own.alarm_row b p y ∷ []
+  two_parts x y old mid new r s none is first is' second = second ∙ ap (λ z. z ++ s ∷ []) (one_part x old mid r none is first) ∙ ap (λ z. own.alarm_row b p x ∷ z ∷ []) is'
+
+  parts_append : (hs : List Heard) (e : Expr Note) → map (own.heard_row b p) (hs ++ own.heard b p e ∷ []) ≡ map (own.heard_row b p) hs ++ own.alarm_row b p e ∷ []
+  parts_append [] e = refl
+  parts_append (h ∷ hs) e = ap (λ z. own.heard_row b p h ∷ z) (parts_append hs e)
+
+  pub with_every : (args slice : List (Expr Note)) (e : Expr Note) (old mid new : List own.Truths) (row : own.Truths) → slice ≡ args → old ≡ [] → mid ≡ old ++ own.alarm_rows b p slice → row ≡ own.alarm_row b p e
+      → new ≡ mid ++ row ∷ [] → new ≡ map (own.heard_row b p) (map (own.heard b p) args ++ own.heard b p e ∷ [])
+  with_every args slice e old mid new row same none first is second =
+      second ∙ ap (λ z. z ++ row ∷ []) (listed args slice old mid same none first) ∙ ap (λ z. map (own.heard_row b p) (map (own.heard b p) args) ++ z ∷ []) is
+      ∙ sym (parts_append (map (own.heard b p) args) e)
+
+  no_more : (hs : List Heard) → map (own.heard_row b p) (hs ++ []) ≡ map (own.heard_row b p) hs
+  no_more [] = refl
+  no_more (h ∷ hs) = ap (λ z. own.heard_row b p h ∷ z) (no_more hs)
+
+  pub call_parts : (f : Form Note) (run : Bool) (x : Name) (args : List (Expr Note)) (every : Option (Expr Note)) → f ≡ form.Call run x args every
+      → own.parts_alarms b p f ≡ map (own.heard_row b p) (map (own.heard b p) args ++ option_part (option_map (own.heard b p) every))
+  call_parts f run x args every is = ap (λ z. map (own.heard_row b p) (form_parts z)) (call_layer f run x args every is)
+
+  pub without_every : (args slice : List (Expr Note)) (old new : List own.Truths) → slice ≡ args → old ≡ [] → new ≡ old ++ own.alarm_rows b p slice
+      → new ≡ map (own.heard_row b p) (map (own.heard b p) args ++ [])
+  without_every args slice old new same none e = listed args slice old new same none e ∙ sym (no_more (map (own.heard b p) args))
+
+grouped : {A : Type 0} (xs ys zs : List A) → (xs ++ ys) ++ zs ≡ xs ++ (ys ++ zs)
+grouped [] ys zs = refl
+grouped (x ∷ xs) ys zs = ap (λ z. x ∷ z) (grouped xs ys zs)
+
+pub appended_next : {A B : Type 0} (f : A → B) (all : List A) (i : ℕ) (x : A) (old done new : List B) (y : B) → i < length all → get_or all i x ≡ x → done ≡ old ++ map f (take i all) → y ≡ f x → new ≡ done ++ y ∷ []
+    → new ≡ old ++ map f (take (i + 1) all)
+appended_next f all i x old done new y below is so_far one more =
+    more ∙ ap (λ z. z ++ y ∷ []) so_far ∙ grouped old (map f (take i all)) (y ∷ [])
+    ∙ ap (λ z. old ++ z) (mapped_next f all i x (map f (take i all)) (map f (take i all) ++ y ∷ []) y below is refl one refl)

@@ -1,9 +1,9 @@
 -- What is heard at an expression is what is said at it, and where it is alarmed.
-use Rattle.std.specs.Prelude.{◌≡◌, refl, ℕ, List, [], ◌∷◌, map, Option, Some, None}
-use Rattle.std.proofs.Common.{ap, sym, ◌∙◌}
+use Rattle.std.specs.Prelude.{◌≡◌, refl, List, [], ◌∷◌, map, Some, None}
+use Rattle.std.proofs.Common.{ap, ◌∙◌}
 use Rattle.ls_ast.specs.declared.tree.Case.{Case}
 use Rattle.ls_ast.specs.declared.tree.Expr.{Expr, Expr-F, fold-Expr, fold-roll-Expr}
-use Rattle.ls_ast.specs.declared.tree.Form.{Form, fold-Form, fold-roll-Form, map-Form}
+use Rattle.ls_ast.specs.declared.tree.Form.{Form, fold-Form, map-Form}
 use Rattle.ls_ast.specs.declared.tree.Form.TheOpen.{Form-F}
 use Rattle.ls_sig.specs.Places.{Place}
 use Rattle.ls_sig.specs.declared.binder.Note.{Note}

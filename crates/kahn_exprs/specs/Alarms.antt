@@ -20,7 +20,7 @@ use Rattle.kahn_model.specs.Values.{alarm}
 use Rattle.kahn_model.specs.declared.cell.Cell.{Cell}
 use Rattle.kahn_exprs.specs.declared.body.Body.{Body}
 use Rattle.kahn_exprs.specs.Body as spec
-use Rattle.kahn_exprs.specs.Calls.{cut, target_at, target_row}
+use Rattle.kahn_exprs.specs.Calls.{target_at, target_row}
 use Rattle.kahn_exprs.specs.Instance.{head}
 use Rattle.kahn_exprs.specs.Rules.{Cells, column}
 

@@ -1,5 +1,4 @@
-use Rattle.std.proofs.Common.{◌∙◌, ap, sym}
-use Rattle.kahn_model.specs.Alike.{RowAlike}
+use Rattle.std.proofs.Common.{◌∙◌, sym}
 use Rattle.kahn_exprs.specs.Alarms as own
 use Rattle.kahn_exprs.specs.Context as around
 use Rattle.kahn_exprs.proofs.AlarmsAlike.{called_is, only_passed, row_alike}
