@@ -22,7 +22,7 @@ pub ok_on : {E : Type 0} (r : Result (Option Cell) E) (x : Option Cell) (y : Opt
 ok_on (Ok v) x y e h = e ∙ ap Some (sym h)
 ok_on (Err f) x y e h = h
 
-pub ok_same : {E : Type 0} (r : Result (Option Cell) E) (x y : Option Cell) → x ≡ y → IfOk r (λ v. v ≡ x) → IfOk r (λ v. v ≡ y)
+pub ok_same : {T E : Type 0} (r : Result T E) (x y : T) → x ≡ y → IfOk r (λ v. v ≡ x) → IfOk r (λ v. v ≡ y)
 ok_same (Ok v) x y e h = h ∙ e
 ok_same (Err f) x y e h = h
 

@@ -1,5 +1,5 @@
 -- What is around a body, as the network has it: beyond the cells of a row nothing is known.
-use Rattle.std.specs.Prelude.{ℕ, ◌==◌, Bool, List, [], ◌∷◌, map, Option, Some, None, if◌then◌else◌}
+use Rattle.std.specs.Prelude.{ℕ, ◌==◌, Bool, false, List, [], ◌∷◌, map, Option, Some, None, if◌then◌else◌}
 use Rattle.kahn_model.specs.Functions.{Arg, stream, def, given, Around}
 use Rattle.kahn_model.specs.Rows.{Row}
 use Rattle.kahn_model.specs.Table.{cell_in}

@@ -61,7 +61,6 @@ fn same_key(a: Key, b: Key) -> bool
 }
 
 /// The cell of a row at an instant.
-#[tactic(auto, using(crate::proofs::Cells::cell_at))]
 pub fn cell_in(cells: &[Option<Cell>], i: usize, alloc: Global) -> Result<Option<Cell>, NoMemory>
     ensures { IfOk result (λ r. r ≡ rows.cell_in cells.now i) }
 {
@@ -72,7 +71,6 @@ pub fn cell_in(cells: &[Option<Cell>], i: usize, alloc: Global) -> Result<Option
 }
 
 /// The truth of a row at an instant.
-#[tactic(auto, using(crate::proofs::Cells::cell_at))]
 pub fn truth_in(cells: &[Option<bool>], i: usize) -> Option<bool>
     ensures { result ≡ rows.cell_in cells.now i }
 {
