@@ -1,7 +1,9 @@
 -- The meaning of a definition, one call less deep.
 use Rattle.std.specs.Prelude.{◌≡◌, ◌≢◌, refl, ℕ, zero, suc, ◌-◌, List, [], Option, Some, None}
 use Rattle.std.proofs.Common.{ap, sym, ◌∙◌, arith}
-use Rattle.kahn_model.specs.declared.cell.Cell.{Cell}
+use Rattle.ls_ast.specs.declared.tree.DefOf.{DefOf}
+use Rattle.ls_sig.specs.declared.binder.Note.{Note}
+use Rattle.kahn_model.specs.Program.{case_place}
 use Rattle.kahn_model.specs.declared.definition.Definition.{Definition}
 use Rattle.kahn_model.specs.Functions.{Around}
 use Rattle.kahn_model.specs.Search.{nth}
@@ -29,3 +31,11 @@ module _ (cases : ℕ → Option ℕ) (defs : List Definition) (n : ℕ) where
   some_means zero k a d p e = absurd (p refl)
   some_means (suc depth) k a d p e = ap (λ z. written_row n 0 (Table.body cases defs n (Table.meaning cases defs n z) (Some d) a)) (one_less depth)
       ∙ ap (λ z. written_row n 0 (Table.body cases defs n (Table.meaning cases defs n depth) z a)) e
+
+pub same_means : (file file' : List (DefOf Note)) (defs defs' : List Definition) (n n' depth depth' k : ℕ) (a : Around) → file' ≡ file → defs' ≡ defs → n' ≡ n → depth' ≡ depth
+    → written_row n 0 (Table.meaning (case_place file) defs n depth k a) ≡ written_row n' 0 (Table.meaning (case_place file') defs' n' depth' k a)
+same_means file file' defs defs' n n' depth depth' k a e f g h = sym (
+    ap (λ z. written_row n' 0 (Table.meaning (case_place z) defs' n' depth' k a)) e
+    ∙ ap (λ z. written_row n' 0 (Table.meaning (case_place file) z n' depth' k a)) f
+    ∙ ap (λ z. written_row z 0 (Table.meaning (case_place file) defs z depth' k a)) g
+    ∙ ap (λ z. written_row n 0 (Table.meaning (case_place file) defs n z k a)) h)
