@@ -1,3 +1,4 @@
 pub mod Equations
 pub mod Turns
 pub mod Calls
+pub mod Alarms

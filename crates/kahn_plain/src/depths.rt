@@ -11,14 +11,14 @@ ghost use Rattle.kahn_plain.specs.Turns as own;
 use crate::equations::unknown_row;
 use crate::turns::table;
 use kahn_cells::search::nth;
-use kahn_exprs::{Body, Calls, Context, row};
+use kahn_exprs::{Alarms, Body, Calls, Context, row};
 use kahn_model::{Cell, Definition};
 use ls_ast::DefOf;
 use ls_base::{List, NoMemory};
 use ls_sig::Note;
 use std::alloc::Global;
 
-/// Answers calls by a function.
+/// Answers calls by a function: with rows, or with alarms.
 #[derive(Drop)]
 pub struct Level<F> {
     pub call: F,
@@ -29,6 +29,23 @@ impl<F: Fn(u32, Context) -> Result<List<Option<Cell>>, NoMemory>> Calls for Leve
     ghost use Rattle.kahn_plain.specs.Calls.{Answers};
 
     ghost can = { λ l b. F.IsAlwaysCallable l.call × Answers b.lines (spec.call b) (F.post l.call) };
+
+    fn answer(
+        &self,
+        _body: &Body,
+        k: u32,
+        context: Context,
+        _alloc: Global,
+    ) -> Result<List<Option<Cell>>, NoMemory> {
+        (self.call)(k, context)
+    }
+}
+
+impl<F: Fn(u32, Context) -> Result<List<Option<Cell>>, NoMemory>> Alarms for Level<F> {
+    ghost use Rattle.kahn_exprs.specs.Body as spec;
+    ghost use Rattle.kahn_plain.specs.Calls.{Answers};
+
+    ghost can = { λ l b. F.IsAlwaysCallable l.call × Answers b.lines (spec.alarmed b) (F.post l.call) };
 
     fn answer(
         &self,

@@ -2,12 +2,14 @@
 //! first, then each row anew from the table before, until a turn changes nothing.
 #![tactic(auto)]
 
+mod alarmed;
 mod blocks;
 mod depths;
 mod equations;
 mod same;
 mod turns;
 
+pub use alarmed::alarms;
 pub use depths::meaning;
 pub use turns::{is_numbered, table};
 
