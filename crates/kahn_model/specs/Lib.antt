@@ -9,6 +9,7 @@ pub mod Table
 pub mod Alarm
 pub mod Program
 pub mod Order
+pub mod Alike
 pub mod Fullness
 pub mod Laws
 pub mod Reads

@@ -11,5 +11,6 @@ fn laws_are_stated(_rt: HostRuntime) -> Result<(), Fail> {
     laws::later_lines_change_nothing();
     laws::solutions_go_by_cells();
     laws::causality_goes_by_definitions();
+    laws::meanings_go_by_their_lines();
     Ok(())
 }
