@@ -2,3 +2,4 @@ pub mod Standing
 pub mod Rights
 pub mod Filled
 pub mod CallDepth
+pub mod Run

@@ -2,3 +2,4 @@ pub mod Equations
 pub mod Turns
 pub mod Calls
 pub mod Alarms
+pub mod Node

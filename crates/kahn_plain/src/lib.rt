@@ -6,10 +6,12 @@ mod alarmed;
 mod blocks;
 mod depths;
 mod equations;
+mod node;
 mod same;
 mod turns;
 
 pub use alarmed::alarms;
 pub use depths::meaning;
+pub use node::{Answer, network};
 pub use turns::{is_numbered, table};
 
