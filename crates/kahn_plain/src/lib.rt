@@ -13,5 +13,8 @@ mod turns;
 pub use alarmed::alarms;
 pub use depths::meaning;
 pub use node::{Answer, network};
-pub use turns::{is_numbered, table};
+pub use turns::{are_numbered, is_numbered, table};
+
+#[cfg(test)]
+mod tests;
 

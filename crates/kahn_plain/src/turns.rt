@@ -184,3 +184,13 @@ pub fn is_numbered(def: &Definition) -> bool
 {
     def.params.len() + def.places.names.len() < 4_294_967_296
 }
+
+/// Whether the clock names of each definition can all be numbered.
+pub fn are_numbered(defs: &[Definition]) -> bool
+    ensures { IsTrue result ↔ own.AllNumbered defs.now }
+{
+    match defs {
+        [] => true,
+        [d, rest @ ..] => is_numbered(d) && are_numbered(rest),
+    }
+}
