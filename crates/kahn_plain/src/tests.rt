@@ -1,4 +1,4 @@
-use crate::{are_numbered, network};
+use crate::{Answer, are_numbered, network};
 use kahn_model::{Cell, Definition, Value};
 use ls_ast::{Case, Expr, Form, Pat};
 use ls_base::{Boxed, List, Name, NoMemory, NoteCopy};
@@ -284,6 +284,21 @@ fn tells(row: &[Option<bool>], all: &[bool]) -> bool {
     }
 }
 
+/// What a node of a file without enumerations gives, if its clock names can be numbered.
+fn run(
+    defs: &[Definition],
+    lines: u32,
+    k: u32,
+    args: List<List<Option<Cell>>>,
+    alloc: Global,
+) -> Result<Option<Answer>, NoMemory> {
+    if are_numbered(defs) {
+        Ok(Some(network(&[], defs, lines, k, args, alloc)?))
+    } else {
+        Ok(None)
+    }
+}
+
 #[test]
 fn a_running_sum(rt: HostRuntime) -> Result<(), Fail> {
     let alloc = rt.alloc();
@@ -291,10 +306,9 @@ fn a_running_sum(rt: HostRuntime) -> Result<(), Fail> {
     defs.push(running_sum(alloc)?)?;
     let mut args = List::new(alloc);
     args.push(ints(&[1, 2, 3, -4], alloc)?)?;
-    assert!(rt; are_numbered(defs.as_slice()));
-    let answer = network(&[], defs.as_slice(), 4, 0, args, alloc)?;
-    assert!(rt; says(answer.row.as_slice(), &[1, 3, 6, 2]));
-    assert!(rt; tells(answer.alarms.as_slice(), &[false, false, false, false]));
+    let answer = run(defs.as_slice(), 4, 0, args, alloc)?;
+    assert!(rt; matches!(&answer, Some(a) if says(a.row.as_slice(), &[1, 3, 6, 2])));
+    assert!(rt; matches!(&answer, Some(a) if tells(a.alarms.as_slice(), &[false, false, false, false])));
     Ok(())
 }
 
@@ -306,9 +320,8 @@ fn a_delay_on_a_slow_clock(rt: HostRuntime) -> Result<(), Fail> {
     let mut args = List::new(alloc);
     args.push(truths(&[true, false, false, true, false], alloc)?)?;
     args.push(ints(&[1, 2, 3, 4, 5], alloc)?)?;
-    assert!(rt; are_numbered(defs.as_slice()));
-    let answer = network(&[], defs.as_slice(), 5, 0, args, alloc)?;
-    assert!(rt; says(answer.row.as_slice(), &[1, 0, 2, 4, 3]));
+    let answer = run(defs.as_slice(), 5, 0, args, alloc)?;
+    assert!(rt; matches!(&answer, Some(a) if says(a.row.as_slice(), &[1, 0, 2, 4, 3])));
     Ok(())
 }
 
@@ -320,9 +333,8 @@ fn a_call_in_a_call(rt: HostRuntime) -> Result<(), Fail> {
     defs.push(later(alloc)?)?;
     let mut args = List::new(alloc);
     args.push(ints(&[1, 2, 3, 4], alloc)?)?;
-    assert!(rt; are_numbered(defs.as_slice()));
-    let answer = network(&[], defs.as_slice(), 4, 1, args, alloc)?;
-    assert!(rt; says(answer.row.as_slice(), &[0, 0, 1, 2]));
+    let answer = run(defs.as_slice(), 4, 1, args, alloc)?;
+    assert!(rt; matches!(&answer, Some(a) if says(a.row.as_slice(), &[0, 0, 1, 2])));
     Ok(())
 }
 
@@ -335,9 +347,8 @@ fn a_function_as_an_argument(rt: HostRuntime) -> Result<(), Fail> {
     defs.push(applied(alloc)?)?;
     let mut args = List::new(alloc);
     args.push(ints(&[1, 2, 3, 4], alloc)?)?;
-    assert!(rt; are_numbered(defs.as_slice()));
-    let answer = network(&[], defs.as_slice(), 4, 2, args, alloc)?;
-    assert!(rt; says(answer.row.as_slice(), &[0, 1, 2, 3]));
+    let answer = run(defs.as_slice(), 4, 2, args, alloc)?;
+    assert!(rt; matches!(&answer, Some(a) if says(a.row.as_slice(), &[0, 1, 2, 3])));
     Ok(())
 }
 
@@ -350,8 +361,7 @@ fn a_division_by_zero_in_a_call(rt: HostRuntime) -> Result<(), Fail> {
     let mut args = List::new(alloc);
     args.push(ints(&[6, 7, 8], alloc)?)?;
     args.push(ints(&[2, 0, 4], alloc)?)?;
-    assert!(rt; are_numbered(defs.as_slice()));
-    let answer = network(&[], defs.as_slice(), 3, 1, args, alloc)?;
-    assert!(rt; tells(answer.alarms.as_slice(), &[false, true, false]));
+    let answer = run(defs.as_slice(), 3, 1, args, alloc)?;
+    assert!(rt; matches!(&answer, Some(a) if tells(a.alarms.as_slice(), &[false, true, false])));
     Ok(())
 }
