@@ -12,3 +12,4 @@ pub mod FormsAlike
 pub mod ValuesAlike
 pub mod Heard
 pub mod AlarmsAlike
+pub mod Cells

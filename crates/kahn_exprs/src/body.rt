@@ -65,15 +65,9 @@ pub fn same_key(a: Key, b: Key) -> bool
 pub fn cell_in(cells: &[Option<Cell>], i: usize, alloc: Global) -> Result<Option<Cell>, NoMemory>
     ensures { IfOk result (λ r. r ≡ rows.cell_in cells.now i) }
 {
-    match cells {
-        [] => Ok(None),
-        [c, rest @ ..] => {
-            if i == 0 {
-                copy_known(c, alloc)
-            } else {
-                cell_in(rest, i - 1, alloc)
-            }
-        }
+    match cells.get(i) {
+        None => Ok(None),
+        Some(c) => copy_known(c, alloc),
     }
 }
 
@@ -82,11 +76,9 @@ pub fn cell_in(cells: &[Option<Cell>], i: usize, alloc: Global) -> Result<Option
 pub fn truth_in(cells: &[Option<bool>], i: usize) -> Option<bool>
     ensures { result ≡ rows.cell_in cells.now i }
 {
-    match cells {
-        [] => None,
-        [c, rest @ ..] => {
-            if i == 0 { *c } else { truth_in(rest, i - 1) }
-        }
+    match cells.get(i) {
+        None => None,
+        Some(c) => *c,
     }
 }
 

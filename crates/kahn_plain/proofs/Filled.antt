@@ -1,14 +1,12 @@
--- Rows written one kind after the other, and the number of turns.
-use Rattle.std.specs.Prelude.{◌≡◌, refl, ℕ, suc, ◌+◌, List, [], ◌∷◌, ◌++◌, length, Option, false}
+-- Rows written one kind after the other, and turns after one that changes nothing.
+use Rattle.std.specs.Prelude.{◌≡◌, refl, ℕ, zero, suc, ◌+◌, ◌*◌, ◌<◌, ◌≤◌, ◌-◌, List, [], ◌∷◌, ◌++◌, length, Option, false}
 use Rattle.std.proofs.Common.{ap, sym, ◌∙◌, arith}
 use Rattle.kahn_model.specs.declared.cell.Key.{Key}
-use Rattle.kahn_model.specs.Table.{read, row_keys, written, written_row}
-use Rattle.kahn_model.specs.Turn
-use Rattle.kahn_model.specs.Turn.{Table}
+use Rattle.kahn_model.specs.Table.{row_keys, written, written_row}
 use Rattle.kahn_model.specs.Table
-use Rattle.kahn_model.specs.declared.cell.Cell.{Cell}
-use Rattle.kahn_model.specs.declared.definition.Definition.{Definition}
-use Rattle.kahn_plain.specs.Body as spec
+use Rattle.kahn_model.specs.Turn.{Table}
+use Rattle.kahn_exprs.specs.declared.body.Body.{Body}
+use Rattle.kahn_exprs.specs.Body as spec
 use Rattle.kahn_plain.specs.Turns as own
 
 pub written_append : (ks ls : List Key) (n : ℕ) (T : Table) → written (ks ++ ls) n T ≡ written ks n T ++ written ls n T
@@ -30,11 +28,19 @@ four_written a b c d n T =
 one_more : (t : ℕ) → suc t ≡ t + 1
 one_more t = omega arith
 
-module _ (cases : ℕ → Option ℕ) (defs : List Definition) (n : ℕ) (d : Definition) (args : List (List (Option Cell))) where
-  pub after_next : (t : ℕ) (rows slice : Table.Rows) → slice ≡ rows → rows ≡ own.after cases defs n d args t → own.next cases defs n d args slice false ≡ own.after cases defs n d args (t + 1)
-  after_next t rows slice e f = ap (λ z. own.next cases defs n d args z false) (e ∙ f) ∙ ap (own.after cases defs n d args) (one_more t)
+-- after a turn that changes nothing, further ones change nothing
+stays : (ks : List Key) (n : ℕ) (turn_of : Table → Table) (t m : ℕ) → Table.step ks n turn_of (Table.after ks n turn_of t) ≡ Table.after ks n turn_of t
+    → Table.after ks n turn_of (m + t) ≡ Table.after ks n turn_of t
+stays ks n turn_of t zero e = ap (Table.after ks n turn_of) (omega arith)
+stays ks n turn_of t (suc m) e = ap (Table.after ks n turn_of) (one_on m t) ∙ ap (Table.step ks n turn_of) (stays ks n turn_of t m e) ∙ e
+  where
+    one_on : (m t : ℕ) → suc m + t ≡ suc (m + t)
+    one_on m t = omega arith
 
-  pub row_is : (slice : Table.Rows) → slice ≡ own.table cases defs n d args
-      → written_row n 0 (λ i. Turn.cell cases defs (Table.meaning cases defs n 200) d (Table.whole_run cases defs n (spec.args_of args)) (read slice) [] d.result i)
-      ≡ written_row n 0 (own.result_row cases defs n d args)
-  row_is slice e = ap (λ z. written_row n 0 (λ i. Turn.cell cases defs (Table.meaning cases defs n 200) d (Table.whole_run cases defs n (spec.args_of args)) (read z) [] d.result i)) e
+module _ (b : Body) where
+  pub after_next : (t : ℕ) (rows slice : Table.Rows) → slice ≡ rows → rows ≡ own.after b t → own.next b slice false ≡ own.after b (t + 1)
+  after_next t rows slice e f = ap (λ z. own.next b z false) (e ∙ f) ∙ ap (own.after b) (one_more t)
+
+  pub stopped : (t total : ℕ) (rows : Table.Rows) → rows ≡ own.after b t → t ≤ total → own.next b rows false ≡ rows → rows ≡ own.after b total
+  stopped t total rows e p same = e ∙ sym (stays (row_keys b.def.now) b.lines (own.turn_of b) t (total - t) (ap (λ z. own.next b z false) (sym e) ∙ same ∙ e))
+      ∙ ap (own.after b) (omega (arith, p))

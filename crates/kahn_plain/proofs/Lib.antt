@@ -1,2 +1,5 @@
-pub mod Cellwise
+pub mod Standing
+pub mod Rights
 pub mod Filled
+pub mod CallDepth
+pub mod Run

@@ -1,19 +1,19 @@
--- The rows of a table by their kinds.
-use Rattle.std.specs.Prelude.{ℕ, ◌+◌, ◌<◌, ◌^◌, Bool, true, false, List, [], map, Option, Some, None, length}
+-- The rows of a table by their kinds, and its turns.
+use Rattle.std.specs.Prelude.{◌≡◌, ℕ, ◌+◌, ◌<◌, ◌^◌, Bool, true, false, List, map, Option, Some, None, length}
 use Rattle.kahn_model.specs.declared.cell.Cell.{Cell}
 use Rattle.kahn_model.specs.declared.cell.Key.{Key}
 use Rattle.kahn_model.specs.declared.cell.Key.TheVariants as key
 use Rattle.kahn_model.specs.declared.definition.Definition.{Definition}
-use Rattle.kahn_model.specs.Search.{count_up}
+use Rattle.kahn_model.specs.Rows.{Row}
+use Rattle.kahn_model.specs.Search.{count_up, nth}
 use Rattle.kahn_model.specs.Table.{Rows, row_keys, written}
 use Rattle.kahn_model.specs.Table
 use Rattle.kahn_model.specs.Turn
 use Rattle.kahn_model.specs.Turn.{Table as Asked}
-use Rattle.kahn_model.specs.Rows.{Row}
-use Rattle.kahn_plain.specs.declared.body.Body.{Body}
+use Rattle.kahn_exprs.specs.declared.body.Body.{Body}
+use Rattle.kahn_exprs.specs.Body as spec
 use Rattle.kahn_plain.specs.declared.turns.Kind.{Kind}
 use Rattle.kahn_plain.specs.declared.turns.Kind.TheVariants as kind
-use Rattle.kahn_plain.specs.Body as spec
 
 abbrev pub key_of : Kind → ℕ → Key
 key_of kind.Var = key.Var
@@ -39,28 +39,28 @@ kind_rows b first kind.Start = rows_of b first kind.Start (count_up (length b.de
 kind_rows b first kind.Name = rows_of b first kind.Name (count_up (length b.def.now.places.names) (length b.def.now.params))
 kind_rows b first kind.Reset = rows_of b first kind.Reset (count_up (length b.def.now.places.resets) 0)
 
--- each clock name has a number
+-- each clock name of a definition has a number
 abbrev pub AreNumbered : Definition → Type 0
 AreNumbered d = length d.params + length d.places.names < 2 ^ 32
 
-abbrev pub answer : Body → Row Cell
-answer b = spec.cell b [] b.def.now.result
+abbrev pub AllNumbered : List Definition → Type 0
+AllNumbered defs = (k : ℕ) (d : Definition) → nth defs k ≡ Some d → AreNumbered d
 
-module _ (cases : ℕ → Option ℕ) (defs : List Definition) (n : ℕ) (d : Definition) (args : List (List (Option Cell))) where
+-- the turns of a body, whatever table stands in it
+module _ (b : Body) where
   abbrev pub turn_of : Asked → Asked
-  turn_of = Turn.turn cases defs (Table.meaning cases defs n 200) d (Table.whole_run cases defs n (spec.args_of args))
+  turn_of = Turn.turn (spec.cases b) b.defs.now (spec.call b) b.def.now (spec.around b)
 
   abbrev pub next : Rows → Bool → Rows
-  next before true = written (row_keys d) n (λ k i. None)
-  next before false = Table.step (row_keys d) n turn_of before
+  next before true = written (row_keys b.def.now) b.lines (λ k i. None)
+  next before false = Table.step (row_keys b.def.now) b.lines turn_of before
 
   abbrev pub after : ℕ → Rows
-  after = Table.after (row_keys d) n turn_of
+  after = Table.after (row_keys b.def.now) b.lines turn_of
 
-  -- the table of a node's body
   abbrev pub table : Rows
-  table = Table.table_of cases defs n (Table.meaning cases defs n 200) d (Table.whole_run cases defs n (spec.args_of args))
+  table = Table.table_of (spec.cases b) b.defs.now b.lines (spec.call b) b.def.now (spec.around b)
 
-  -- the row of the result of a node: the meaning of its definition by that of the calls in it
-  abbrev pub result_row : Row Cell
-  result_row = Table.body cases defs n (Table.meaning cases defs n 200) (Some d) (Table.whole_run cases defs n (spec.args_of args))
+  -- the row of its result
+  abbrev pub result : Row Cell
+  result = Table.body (spec.cases b) b.defs.now b.lines (spec.call b) (Some b.def.now) (spec.around b)

@@ -1,24 +1,52 @@
-//! The cells of a table: variables, blocks, automata, initial equations and conditions of resets.
+//! The rows of a table: variables, initial equations and conditions of resets.
+//! The rows of right sides are taken first, once a turn, and each cell from them.
 
-ghost use Rattle.std.specs.Prelude.{◌≡◌, ◌+◌, ◌-◌, ◌++◌, ◌∷◌, [], ◌<◌, ◌^◌, IfOk, OnOk, Some, length, map};
+ghost use Rattle.std.specs.Prelude.{◌≡◌, ◌+◌, ◌-◌, ◌++◌, ◌∷◌, [], ◌<◌, ◌^◌, IfOk, OnOk, length, None};
 ghost use Rattle.std.specs.Option.{option_copied};
+ghost use Rattle.kahn_model.specs.Functions.{nowhere};
 ghost use Rattle.kahn_model.specs.Search as search;
-ghost use Rattle.kahn_plain.specs.Body as spec;
+ghost use Rattle.kahn_model.specs.Table as rows;
+ghost use Rattle.kahn_exprs.specs.Body as spec;
 ghost use Rattle.kahn_plain.specs.Equations as own;
 
-use crate::Stopped;
-use crate::body::{Body, active, read};
+use crate::blocks::name_row;
 use kahn_cells::cells::{at, both, emitted, is_case, part, say_here, value_in};
-use crate::expressions::{cell, param_cell};
-use crate::memory::{Pace, last, mode_here, previous, variable_here};
 use kahn_cells::paths::lacks;
 use kahn_cells::search::{arms, chosen_arm, guards_of, nth, signal_in, start_of, state_of};
 use kahn_cells::values::{copy_value, nil};
+use kahn_exprs::{
+    Body, Calls, Pace, active, cell_in, last, mode_here, on, param_cell, previous, read, row,
+    variable_here,
+};
 use kahn_model::{Cell, Definition, Key, Reach};
 use ls_ast::{Expr, Pat};
 use ls_base::{List, NoMemory};
 use ls_sig::{Frame, Named, Note, Right, Site, Transition, Variable};
 use std::alloc::Global;
+
+/// A row that is not known.
+#[tactic(auto, using(crate::proofs::Standing::one_more))]
+pub fn unknown_row(lines: u32, alloc: Global) -> Result<List<Option<Cell>>, NoMemory>
+    ensures { IfOk result (λ r. r ≡ rows.written_row lines 0 (λ i. None)) }
+{
+    let mut done = List::new(alloc);
+    for _i in 0..lines {
+        done.push(None)?;
+    }
+    Ok(done)
+}
+
+/// A row that is absent.
+#[tactic(auto, using(crate::proofs::Standing::one_more))]
+pub fn absent_row(lines: u32, alloc: Global) -> Result<List<Option<Cell>>, NoMemory>
+    ensures { IfOk result (λ r. r ≡ rows.written_row lines 0 nowhere) }
+{
+    let mut done = List::new(alloc);
+    for _i in 0..lines {
+        done.push(Some(Cell::Absent))?;
+    }
+    Ok(done)
+}
 
 /// Whether the arms between a list and an equation are active.
 fn reach(
@@ -49,7 +77,7 @@ fn reach(
 }
 
 /// The cell of the signal that a test names.
-fn signal_cell(
+pub fn signal_cell(
     body: &Body,
     x: u32,
     place: &[Frame],
@@ -61,7 +89,10 @@ fn signal_cell(
     let p = arms(place, alloc)?;
     match signal_in(x, p.as_slice(), body.def.places.vars.as_slice(), 0) {
         Some(k) => read(body.rows, Key::Var(k), i, alloc),
-        None => param_cell(x, body.def.params.as_slice(), body.args, i, alloc),
+        None => {
+            let args = body.context.args.as_slice();
+            param_cell(x, body.def.params.as_slice(), args, i, alloc)
+        }
     }
 }
 
@@ -75,22 +106,88 @@ fn part_of(p: &Pat, x: u32, c: Option<Cell>, alloc: Global) -> Result<Option<Cel
     }
 }
 
-/// The cell that an equation gives to a name.
-fn right_cell(
+/// The parts of a row that a pattern gives to a name.
+#[tactic(auto, using(crate::proofs::Standing::one_more))]
+fn part_row(
+    lines: u32,
+    p: &Pat,
+    x: u32,
+    cells: &[Option<Cell>],
+    alloc: Global,
+) -> Result<List<Option<Cell>>, NoMemory>
+    ensures { IfOk result (λ r. r ≡ rows.written_row lines 0 (λ i. own.part_of p.now x (rows.cell_in cells.now i))) }
+{
+    let mut done = List::new(alloc);
+    for i in 0..lines {
+        done.push(part_of(p, x, cell_in(cells, i as usize, alloc)?, alloc)?)?;
+    }
+    Ok(done)
+}
+
+/// The row of the signal that a test names.
+#[tactic(auto, using(crate::proofs::Standing::one_more))]
+fn signal_row(
     body: &Body,
     x: u32,
     place: &[Frame],
-    right: &Right<Note>,
-    i: usize,
     alloc: Global,
-) -> Result<Option<Cell>, Stopped>
-    ensures { IfOk result (λ r. r ≡ spec.right_cell body.now x place.now right.now i) }
+) -> Result<List<Option<Cell>>, NoMemory>
+    ensures { IfOk result (λ r. r ≡ rows.written_row body.now.lines 0 (spec.signal_row body.now x place.now)) }
+{
+    let mut done = List::new(alloc);
+    for i in 0..body.lines {
+        done.push(signal_cell(body, x, place, i as usize, alloc)?)?;
+    }
+    Ok(done)
+}
+
+/// The row that an equation gives to a name.
+fn right_row<C: Calls>(
+    body: &Body,
+    call: &C,
+    x: u32,
+    place: &[Frame],
+    right: &Right<Note>,
+    alloc: Global,
+) -> Result<List<Option<Cell>>, NoMemory>
+    requires { C.can call.now body.now }
+    ensures { IfOk result (λ r. r ≡ rows.written_row body.now.lines 0 (spec.right_cell body.now x place.now right.now)) }
 {
     match right {
-        Right::Part(p, e) => Ok(part_of(p, x, cell(body, place, e, i, alloc)?, alloc)?),
-        Right::Whole(e) => cell(body, place, e, i, alloc),
+        Right::Part(p, e) => {
+            let cells = row(body, call, place, e, alloc)?;
+            part_row(body.lines, p, x, cells.as_slice(), alloc)
+        }
+        Right::Whole(e) => row(body, call, place, e, alloc),
         Right::Pattern(y, p) => {
-            Ok(part_of(p, x, signal_cell(body, *y, place, i, alloc)?, alloc)?)
+            let cells = signal_row(body, *y, place, alloc)?;
+            part_row(body.lines, p, x, cells.as_slice(), alloc)
+        }
+    }
+}
+
+/// The rows that the equations of a variable give to its name.
+fn add_right_rows<C: Calls>(
+    body: &Body,
+    call: &C,
+    x: u32,
+    name: u32,
+    all: &[Site<Note>],
+    done: &mut List<List<Option<Cell>>>,
+    alloc: Global,
+) -> Result<(), NoMemory>
+    requires { C.can call.now body.now }
+    ensures { OnOk result (done.new ≡ done.old ++ own.right_rows body.now name (search.sites_of x all.now)) }
+{
+    match all {
+        [] => Ok(()),
+        [s, rest @ ..] => {
+            if s.var == x {
+                done.push(right_row(body, call, name, s.place.as_slice(), &s.right, alloc)?)?;
+                add_right_rows(body, call, x, name, rest, done, alloc)
+            } else {
+                add_right_rows(body, call, x, name, rest, done, alloc)
+            }
         }
     }
 }
@@ -114,23 +211,25 @@ fn otherwise(
     }
 }
 
-/// By an equation for the variable, where its arms are active.
-#[cycle(sites)]
-fn by_site(
+/// By an equation for the variable, where its arms are active, with its row and those of the rest.
+#[cycle(equations)]
+fn by_equation(
     body: &Body,
     x: u32,
     w: &Variable,
     s: &Site<Note>,
     rest: &[Site<Note>],
+    cells: &[Option<Cell>],
+    more: &[List<Option<Cell>>],
     i: usize,
     alloc: Global,
-) -> Result<Option<Cell>, Stopped>
-    ensures { IfOk result (λ r. r ≡ own.by_site body.now x w.now s.now (search.sites_of x rest.now) i) }
+) -> Result<Option<Cell>, NoMemory>
+    ensures { IfOk result (λ r. r ≡ own.by_equation body.now x w.now s.now rest.now cells.now more.now i) }
 {
     match reach(body, s.inner.as_slice(), i, alloc)? {
         None => Ok(None),
-        Some(Reach::Here) => right_cell(body, w.name, s.place.as_slice(), &s.right, i, alloc),
-        Some(Reach::Elsewhere) => by_sites(body, x, w, rest, i, alloc),
+        Some(Reach::Here) => cell_in(cells, i, alloc),
+        Some(Reach::Elsewhere) => by_equations(body, x, w, rest, more, i, alloc),
         Some(Reach::NoArm) => {
             if w.signal {
                 Ok(Some(Cell::Silent))
@@ -141,369 +240,136 @@ fn by_site(
     }
 }
 
-/// The first equation whose arms are active.
-#[cycle(sites)]
-fn by_sites(
+/// The first equation whose arms are active, with the row of each.
+#[cycle(equations)]
+fn by_equations(
     body: &Body,
     x: u32,
     w: &Variable,
     all: &[Site<Note>],
-    i: usize,
-    alloc: Global,
-) -> Result<Option<Cell>, Stopped>
-    ensures { IfOk result (λ r. r ≡ spec.by_sites body.now w.now (spec.otherwise body.now x w.now) (search.sites_of x all.now) i) }
-{
-    match all {
-        [] => Ok(otherwise(body, x, w, i, alloc)?),
-        [s, rest @ ..] => {
-            if s.var == x {
-                by_site(body, x, w, s, rest, i, alloc)
-            } else {
-                by_sites(body, x, w, rest, i, alloc)
-            }
-        }
-    }
-}
-
-fn variable_cell(body: &Body, x: u32, i: usize, alloc: Global) -> Result<Option<Cell>, Stopped>
-    ensures { IfOk result (λ r. r ≡ own.variable_cell body.now x i) }
-{
-    match nth(body.def.places.vars.as_slice(), x as usize) {
-        None => Ok(Some(Cell::Absent)),
-        Some(w) => {
-            let c = by_sites(body, x, w, body.def.places.sites.as_slice(), i, alloc)?;
-            Ok(at(variable_here(body, x, i, alloc)?, c))
-        }
-    }
-}
-
-/// The target of a guard where it is true, and else that of the first true one of the rest.
-#[cycle(guards)]
-fn by_guard(
-    body: &Body,
-    states: &[(u32, List<Transition<Note>>)],
-    place: &[Frame],
-    none: (u32, bool),
-    g: &Transition<Note>,
-    rest: &[Transition<Note>],
-    i: usize,
-    alloc: Global,
-) -> Result<Option<Cell>, Stopped>
-    requires { length states.now < 2 ^ 32 }
-    ensures { IfOk result (λ r. r ≡ spec.first_true body.now states.now place.now (own.in_state none.0 none.1) (g.now ∷ rest.now) i) }
-{
-    match cell(body, place, &g.cond, i, alloc)? {
-        None => Ok(None),
-        Some(c) => {
-            if is_case(1, &c) {
-                let target = state_of(g.target, states, 0);
-                Ok(Some(Cell::Chosen(Some(target), g.restart)))
-            } else {
-                first_true(body, states, place, none, rest, i, alloc)
-            }
-        }
-    }
-}
-
-/// The target of the first true guard, and else the state itself.
-#[cycle(guards)]
-fn first_true(
-    body: &Body,
-    states: &[(u32, List<Transition<Note>>)],
-    place: &[Frame],
-    none: (u32, bool),
-    all: &[Transition<Note>],
-    i: usize,
-    alloc: Global,
-) -> Result<Option<Cell>, Stopped>
-    requires { length states.now < 2 ^ 32 }
-    ensures { IfOk result (λ r. r ≡ spec.first_true body.now states.now place.now (own.in_state none.0 none.1) all.now i) }
-{
-    match all {
-        [] => Ok(Some(Cell::Chosen(Some(none.0), none.1))),
-        [g, rest @ ..] => by_guard(body, states, place, none, g, rest, i, alloc),
-    }
-}
-
-/// A place with one more arm.
-fn inside(place: &[Frame], m: u32, j: u32, alloc: Global) -> Result<List<Frame>, NoMemory>
-    ensures { IfOk result (λ r. r ≡ place.now ++ Frame.Arm m j ∷ []) }
-{
-    let mut done = List::new(alloc);
-    for frame in place {
-        done.push(*frame)?;
-    }
-    done.push(Frame::Arm(m, j))?;
-    Ok(done)
-}
-
-/// Whether a state that is kept restarts.
-fn kept(keep: bool, restart: bool) -> bool
-    ensures { result ≡ search.and keep restart }
-{
-    keep && restart
-}
-
-/// What the guards of a state choose.
-fn leave(
-    body: &Body,
-    keep: bool,
-    m: u32,
-    states: &[(u32, List<Transition<Note>>)],
-    place: &[Frame],
-    i: usize,
-    s: u32,
-    restart: bool,
-    alloc: Global,
-) -> Result<Option<Cell>, Stopped>
-    requires { length states.now < 2 ^ 32 }
-    ensures { IfOk result (λ r. r ≡ own.leave body.now keep m states.now place.now i s restart) }
-{
-    let p = inside(place, m, s, alloc)?;
-    let none = (s, kept(keep, restart));
-    first_true(
-        body,
-        states,
-        p.as_slice(),
-        none,
-        guards_of(states, s),
-        i,
-        alloc,
-    )
-}
-
-/// What the guards of the state that a cell names choose.
-fn choice(
-    body: &Body,
-    keep: bool,
-    m: u32,
-    states: &[(u32, List<Transition<Note>>)],
-    place: &[Frame],
-    i: usize,
-    c: &Cell,
-    alloc: Global,
-) -> Result<Option<Cell>, Stopped>
-    requires { length states.now < 2 ^ 32 }
-    ensures { IfOk result (λ r. r ≡ spec.choice body.now keep m states.now place.now i c.now) }
-{
-    match c {
-        Cell::Chosen(j, restart) => match *j {
-            Some(s) => leave(body, keep, m, states, place, i, s, *restart, alloc),
-            None => Ok(Some(Cell::Chosen(None, *restart))),
-        },
-        Cell::Absent => Ok(Some(Cell::Absent)),
-        Cell::Silent => Ok(Some(Cell::Silent)),
-        Cell::Present(w) => Ok(Some(Cell::Present(copy_value(w, alloc)?))),
-    }
-}
-
-/// The first test whose signal is emitted, and else the last arm.
-fn first_emitted(
-    body: &Body,
-    all: &[u32],
-    place: &[Frame],
-    j: u32,
+    right_rows: &[List<Option<Cell>>],
     i: usize,
     alloc: Global,
 ) -> Result<Option<Cell>, NoMemory>
-    requires { j + length all.now < 2 ^ 32 }
-    ensures { IfOk result (λ r. r ≡ spec.first_emitted body.now all.now place.now j i) }
+    ensures { IfOk result (λ r. r ≡ own.by_equations body.now x w.now all.now right_rows.now i) }
 {
     match all {
-        [] => Ok(Some(Cell::Chosen(Some(j), false))),
-        [x, rest @ ..] => match signal_cell(body, *x, place, i, alloc)? {
-            None => Ok(None),
-            Some(c) => {
-                if emitted(&c) {
-                    Ok(Some(Cell::Chosen(Some(j), false)))
-                } else {
-                    first_emitted(body, rest, place, j + 1, i, alloc)
+        [] => otherwise(body, x, w, i, alloc),
+        [s, rest @ ..] => {
+            if s.var == x {
+                match right_rows {
+                    [] => Ok(None),
+                    [cells, more @ ..] => {
+                        by_equation(body, x, w, s, rest, cells.as_slice(), more, i, alloc)
+                    }
                 }
+            } else {
+                by_equations(body, x, w, rest, right_rows, i, alloc)
             }
-        },
-    }
-}
-
-fn present_here(
-    body: &Body,
-    all: &[u32],
-    place: &[Frame],
-    i: usize,
-    alloc: Global,
-) -> Result<Option<bool>, NoMemory>
-    ensures { IfOk result (λ r. r ≡ spec.present_here body.now all.now place.now i) }
-{
-    match all {
-        [] => active(body, place, i, alloc),
-        [x, ..] => {
-            let c = signal_cell(body, *x, place, i, alloc)?;
-            Ok(both(active(body, place, i, alloc)?, say_here(&c)))
         }
     }
 }
 
-/// The selector of a `match`.
-fn match_cell(
+fn variable_cell(
     body: &Body,
-    e: &Expr<Note>,
-    all: &[Option<u32>],
-    place: &[Frame],
+    x: u32,
+    w: &Variable,
+    right_rows: &[List<Option<Cell>>],
     i: usize,
     alloc: Global,
-) -> Result<Option<Cell>, Stopped>
-    requires { length all.now < 2 ^ 32 }
-    ensures { IfOk result (λ r. r ≡ own.match_cell body.now e.now all.now place.now i) }
+) -> Result<Option<Cell>, NoMemory>
+    ensures { IfOk result (λ r. r ≡ own.variable_from body.now x w.now right_rows.now i) }
 {
-    let c = match cell(body, place, e, i, alloc)? {
-        None => None,
-        Some(c) => Some(Cell::Chosen(chosen_arm(all, &value_in(c)), false)),
-    };
-    Ok(at(crate::body::on(body, &e.note.ck, i, alloc)?, c))
+    let all = body.def.places.sites.as_slice();
+    let c = by_equations(body, x, w, all, right_rows, i, alloc)?;
+    Ok(at(variable_here(body, x, i, alloc)?, c))
 }
 
-/// The active row of an automaton.
-fn active_cell(
+#[tactic(auto, using(crate::proofs::Standing::one_more))]
+fn variable_cells(
     body: &Body,
-    m: u32,
-    states: &[(u32, List<Transition<Note>>)],
-    place: &[Frame],
-    i: usize,
+    x: u32,
+    w: &Variable,
+    right_rows: &[List<Option<Cell>>],
     alloc: Global,
-) -> Result<Option<Cell>, Stopped>
-    requires number { m + 1 < 2 ^ 32 }
-    requires few { length states.now < 2 ^ 32 }
-    ensures { IfOk result (λ r. r ≡ own.active_cell body.now m states.now place.now i) }
+) -> Result<List<Option<Cell>>, NoMemory>
+    ensures { IfOk result (λ r. r ≡ rows.written_row body.now.lines 0 (own.variable_from body.now x w.now right_rows.now)) }
 {
-    let c = match read(body.rows, Key::Name(m + 1), i, alloc)? {
-        None => None,
-        Some(c) => choice(body, true, m + 1, states, place, i, &c, alloc)?,
-    };
-    Ok(at(mode_here(body, m, place, i, alloc)?, c))
-}
-
-/// The state that the weak guards chose at the previous instant, and the initial one at a first.
-fn after_state(
-    body: &Body,
-    m: u32,
-    states: &[(u32, List<Transition<Note>>)],
-    place: &[Frame],
-    before: Option<usize>,
-    alloc: Global,
-) -> Result<Option<Cell>, Stopped>
-    requires { length states.now < 2 ^ 32 }
-    ensures { IfOk result (λ r. r ≡ own.after_state body.now m states.now place.now before) }
-{
-    match before {
-        None => Ok(Some(Cell::Chosen(Some(0), false))),
-        Some(j) => match read(body.rows, Key::Name(m), j, alloc)? {
-            None => Ok(None),
-            Some(c) => choice(body, false, m, states, place, j, &c, alloc),
-        },
+    let mut done = List::new(alloc);
+    for i in 0..body.lines {
+        done.push(variable_cell(body, x, w, right_rows, i as usize, alloc)?)?;
     }
+    Ok(done)
 }
 
-/// The tested row of an automaton with this first clock name.
-fn tested_cell(
+fn variable_row<C: Calls>(
     body: &Body,
-    m: u32,
-    states: &[(u32, List<Transition<Note>>)],
-    place: &[Frame],
-    i: usize,
+    call: &C,
+    x: u32,
     alloc: Global,
-) -> Result<Option<Cell>, Stopped>
-    requires number { m + 1 < 2 ^ 32 }
-    requires few { length states.now < 2 ^ 32 }
-    ensures { IfOk result (λ r. r ≡ own.tested_cell body.now m states.now place.now i) }
-{
-    let c = match previous(body, Pace::Mode(m, place), place, i, alloc)? {
-        None => None,
-        Some(before) => after_state(body, m, states, place, before, alloc)?,
-    };
-    Ok(at(mode_here(body, m, place, i, alloc)?, c))
-}
-
-/// What a clock name stands for.
-fn named(d: &Definition, m: u32) -> Option<&Named<Note>>
-    ensures { option_copied result ≡ search.nth d.now.places.names (m - length d.now.params) }
-{
-    let place = (m as usize).saturating_sub(d.params.len());
-    nth(d.places.names.as_slice(), place)
-}
-
-/// The row of a block's clock name.
-fn name_cell(body: &Body, m: u32, i: usize, alloc: Global) -> Result<Option<Cell>, Stopped>
-    requires { m + 1 < 2 ^ 32 }
-    ensures { IfOk result (λ r. r ≡ own.name_cell body.now m i) }
-{
-    match named(body.def, m) {
-        None => Ok(Some(Cell::Absent)),
-        Some(Named::Clock(_)) => Ok(Some(Cell::Absent)),
-        Some(Named::Match(e, all, p)) => match_cell(
-            body,
-            e,
-            all.as_slice(),
-            p.as_slice(),
-            i,
-            alloc,
-        ),
-        Some(Named::Present(all, p)) => {
-            let c = first_emitted(body, all.as_slice(), p.as_slice(), 0, i, alloc)?;
-            Ok(at(
-                present_here(body, all.as_slice(), p.as_slice(), i, alloc)?,
-                c,
-            ))
-        }
-        Some(Named::Active(states, p)) => active_cell(
-            body,
-            m,
-            states.as_slice(),
-            p.as_slice(),
-            i,
-            alloc,
-        ),
-        Some(Named::Tested(states, p)) => {
-            tested_cell(
-                body,
-                m.saturating_sub(1),
-                states.as_slice(),
-                p.as_slice(),
-                i,
-                alloc,
-            )
-        }
-    }
-}
-
-fn start_cell(body: &Body, x: u32, i: usize, alloc: Global) -> Result<Option<Cell>, Stopped>
-    ensures { IfOk result (λ r. r ≡ own.start_cell body.now x i) }
+) -> Result<List<Option<Cell>>, NoMemory>
+    requires { C.can call.now body.now }
+    ensures { IfOk result (λ r. r ≡ rows.written_row body.now.lines 0 (own.variable_cell body.now x)) }
 {
     match nth(body.def.places.vars.as_slice(), x as usize) {
-        None => Ok(Some(Cell::Absent)),
+        None => absent_row(body.lines, alloc),
+        Some(w) => {
+            let all = body.def.places.sites.as_slice();
+            let mut right_rows = List::new(alloc);
+            add_right_rows(body, call, x, w.name, all, &mut right_rows, alloc)?;
+            variable_cells(body, x, w, right_rows.as_slice(), alloc)
+        }
+    }
+}
+
+fn start_row<C: Calls>(
+    body: &Body,
+    call: &C,
+    x: u32,
+    alloc: Global,
+) -> Result<List<Option<Cell>>, NoMemory>
+    requires { C.can call.now body.now }
+    ensures { IfOk result (λ r. r ≡ rows.written_row body.now.lines 0 (own.start_cell body.now x)) }
+{
+    match nth(body.def.places.vars.as_slice(), x as usize) {
+        None => absent_row(body.lines, alloc),
         Some(w) => match start_of(w, body.def.places.starts.as_slice()) {
-            None => Ok(Some(Cell::Absent)),
-            Some(s) => cell(body, s.place.as_slice(), &s.right, i, alloc),
+            None => absent_row(body.lines, alloc),
+            Some(s) => row(body, call, s.place.as_slice(), &s.right, alloc),
         },
     }
 }
 
-fn reset_cell(body: &Body, r: u32, i: usize, alloc: Global) -> Result<Option<Cell>, Stopped>
-    ensures { IfOk result (λ c. c ≡ own.reset_cell body.now r i) }
+fn reset_row<C: Calls>(
+    body: &Body,
+    call: &C,
+    r: u32,
+    alloc: Global,
+) -> Result<List<Option<Cell>>, NoMemory>
+    requires { C.can call.now body.now }
+    ensures { IfOk result (λ c. c ≡ rows.written_row body.now.lines 0 (own.reset_cell body.now r)) }
 {
     match nth(body.def.places.resets.as_slice(), r as usize) {
-        None => Ok(Some(Cell::Absent)),
-        Some(ep) => cell(body, ep.1.as_slice(), &ep.0, i, alloc),
+        None => absent_row(body.lines, alloc),
+        Some(ep) => row(body, call, ep.1.as_slice(), &ep.0, alloc),
     }
 }
 
-/// A cell of a table, anew from the table before it.
-pub fn turn(body: &Body, key: Key, i: usize, alloc: Global) -> Result<Option<Cell>, Stopped>
-    requires { own.IsNumbered key }
-    ensures { IfOk result (λ r. r ≡ spec.turn body.now key i) }
+/// A row of a table, anew from the table before it, with a cell for each line.
+pub fn turn_row<C: Calls>(
+    body: &Body,
+    call: &C,
+    key: Key,
+    alloc: Global,
+) -> Result<List<Option<Cell>>, NoMemory>
+    requires can { C.can call.now body.now }
+    requires number { own.IsNumbered key }
+    ensures { IfOk result (λ r. r ≡ rows.written_row body.now.lines 0 (spec.turn body.now key)) }
 {
     match key {
-        Key::Var(x) => variable_cell(body, x, i, alloc),
-        Key::Start(x) => start_cell(body, x, i, alloc),
-        Key::Name(m) => name_cell(body, m, i, alloc),
-        Key::Reset(r) => reset_cell(body, r, i, alloc),
+        Key::Var(x) => variable_row(body, call, x, alloc),
+        Key::Start(x) => start_row(body, call, x, alloc),
+        Key::Name(m) => name_row(body, call, m, alloc),
+        Key::Reset(r) => reset_row(body, call, r, alloc),
     }
 }

@@ -1,26 +1,20 @@
-//! The network of streams of a node, worked out as the definition says: every cell unknown at
-//! first, then each cell anew from the table before, a turn for each cell.
+//! The network of streams of a program, worked out as the definition says: every cell unknown at
+//! first, then each row anew from the table before, until a turn changes nothing.
 #![tactic(auto)]
 
+mod alarmed;
+mod blocks;
+mod depths;
 mod equations;
+mod node;
+mod same;
 mod turns;
 
-use ls_base::NoMemory;
-pub use turns::{is_numbered, node_row, table};
+pub use alarmed::alarms;
+pub use depths::meaning;
+pub use node::{Answer, network};
+pub use turns::{are_numbered, is_numbered, table};
 
 #[cfg(test)]
 mod tests;
 
-/// Why a table is not told.
-#[derive(Clone, Copy, Debug, PartialEq, Eq)]
-pub enum Stopped {
-    NoMemory,
-    /// The body holds a call, or a name of a definition.
-    Call,
-}
-
-impl From<NoMemory> for Stopped {
-    fn from(_error: NoMemory) -> Stopped {
-        Stopped::NoMemory
-    }
-}

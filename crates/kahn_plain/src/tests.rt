@@ -1,10 +1,10 @@
-use crate::{is_numbered, node_row};
+use crate::{Answer, are_numbered, network};
 use kahn_model::{Cell, Definition, Value};
 use ls_ast::{Case, Expr, Form, Pat};
 use ls_base::{Boxed, List, Name, NoMemory, NoteCopy};
 use ls_ops::Op;
 use ls_sig::{Binder, Frame, Note, Places, Right, Site, Variable};
-use ls_terms::{ClockTerm, TypeTerm};
+use ls_terms::{ClockTerm, Kind, TypeTerm};
 use ls_value::Leaf;
 use std::alloc::Global;
 use std::test::Fail;
@@ -127,6 +127,122 @@ fn two_clocks(alloc: Global) -> Result<Definition, NoMemory> {
     node(params, 4, right, alloc)
 }
 
+/// The definition of these parameters that has no equation.
+fn bare(params: &[u32], body: Expr<Note>, alloc: Global) -> Result<Definition, NoMemory> {
+    let mut pats = List::new(alloc);
+    let mut clocks = List::new(alloc);
+    for x in params {
+        pats.push(Pat::Var(Name(*x)))?;
+        clocks.push(ClockTerm::Var(0))?;
+    }
+    let mut exprs: List<(Expr<Note>, List<Frame>)> = List::new(alloc);
+    exprs.push((body.copy(alloc)?, List::new(alloc)))?;
+    let places = Places {
+        vars: List::new(alloc),
+        sites: List::new(alloc),
+        starts: List::new(alloc),
+        names: List::new(alloc),
+        resets: List::new(alloc),
+        exprs,
+    };
+    Ok(Definition {
+        params: pats,
+        clocks,
+        result: body,
+        places,
+    })
+}
+
+fn param(k: u32, name: u32, alloc: Global) -> Result<Expr<Note>, NoMemory> {
+    expr(base(Binder::Param(k)), Form::Var(Name(name)), alloc)
+}
+
+fn call(
+    bound: Binder,
+    head: u32,
+    args: List<Expr<Note>>,
+    alloc: Global,
+) -> Result<Expr<Note>, NoMemory> {
+    let form = Form::Call {
+        run: false,
+        head: Name(head),
+        args,
+        every: None,
+    };
+    expr(base(bound), form, alloc)
+}
+
+/// `late x = 0 fby x`, with late and x as names 8 and 9.
+fn late(alloc: Global) -> Result<Definition, NoMemory> {
+    let zero = expr(base(Binder::Nothing), Form::Leaf(Leaf::Int(0)), alloc)?;
+    let x = param(0, 9, alloc)?;
+    bare(&[9], expr(base(Binder::Nothing), Form::Fby(zero, x), alloc)?, alloc)
+}
+
+/// `late (late x)`
+fn later(alloc: Global) -> Result<Definition, NoMemory> {
+    let mut inner = List::new(alloc);
+    inner.push(param(0, 2, alloc)?)?;
+    let mut outer = List::new(alloc);
+    outer.push(call(Binder::Def(0), 8, inner, alloc)?)?;
+    bare(&[2], call(Binder::Def(0), 8, outer, alloc)?, alloc)
+}
+
+/// The clock of a function from the clock of the parameters to itself.
+fn arrow(alloc: Global) -> Result<ClockTerm, NoMemory> {
+    let mut from = List::new(alloc);
+    from.push(ClockTerm::Var(0))?;
+    Ok(ClockTerm::Arrow(from, Boxed::new(alloc, ClockTerm::Var(0))?))
+}
+
+/// `apply g x = g x`, with apply, g and x as names 10, 11 and 12.
+fn apply(alloc: Global) -> Result<Definition, NoMemory> {
+    let mut args = List::new(alloc);
+    args.push(param(1, 12, alloc)?)?;
+    let mut d = bare(&[11, 12], call(Binder::Param(0), 11, args, alloc)?, alloc)?;
+    let mut clocks = List::new(alloc);
+    clocks.push(arrow(alloc)?)?;
+    clocks.push(ClockTerm::Var(0))?;
+    d.clocks = clocks;
+    Ok(d)
+}
+
+/// The name of `late`, as a function on the clock of the parameters.
+fn late_itself(alloc: Global) -> Result<Expr<Note>, NoMemory> {
+    let mut types = List::new(alloc);
+    types.push(TypeTerm::Int)?;
+    let note = Note {
+        bound: Binder::Def(0),
+        ty: TypeTerm::Arrow(Kind::Seq, types, Boxed::new(alloc, TypeTerm::Int)?),
+        ck: arrow(alloc)?,
+    };
+    expr(note, Form::Var(Name(8)), alloc)
+}
+
+/// `apply late x`
+fn applied(alloc: Global) -> Result<Definition, NoMemory> {
+    let mut args = List::new(alloc);
+    args.push(late_itself(alloc)?)?;
+    args.push(param(0, 2, alloc)?)?;
+    bare(&[2], call(Binder::Def(1), 10, args, alloc)?, alloc)
+}
+
+/// `ratio x y = x / y`, with ratio, x and y as names 8, 2 and 3.
+fn ratio(alloc: Global) -> Result<Definition, NoMemory> {
+    let mut args = List::new(alloc);
+    args.push(param(0, 2, alloc)?)?;
+    args.push(param(1, 3, alloc)?)?;
+    bare(&[2, 3], expr(base(Binder::Nothing), Form::Op(Op::Div, args), alloc)?, alloc)
+}
+
+/// `ratio x y`
+fn called_ratio(alloc: Global) -> Result<Definition, NoMemory> {
+    let mut args = List::new(alloc);
+    args.push(param(0, 2, alloc)?)?;
+    args.push(param(1, 3, alloc)?)?;
+    bare(&[2, 3], call(Binder::Def(0), 8, args, alloc)?, alloc)
+}
+
 fn ints(all: &[i64], alloc: Global) -> Result<List<Option<Cell>>, NoMemory> {
     let mut row = List::new(alloc);
     for v in all {
@@ -157,27 +273,95 @@ fn says(row: &[Option<Cell>], all: &[i64]) -> bool {
     }
 }
 
+/// Whether a row has these truths.
+fn tells(row: &[Option<bool>], all: &[bool]) -> bool {
+    match row {
+        [] => all.is_empty(),
+        [c, rest @ ..] => match all {
+            [] => false,
+            [v, more @ ..] => *c == Some(*v) && tells(rest, more),
+        },
+    }
+}
+
+/// What a node of a file without enumerations gives, if its clock names can be numbered.
+fn run(
+    defs: &[Definition],
+    lines: u32,
+    k: u32,
+    args: List<List<Option<Cell>>>,
+    alloc: Global,
+) -> Result<Option<Answer>, NoMemory> {
+    if are_numbered(defs) {
+        Ok(Some(network(&[], defs, lines, k, args, alloc)?))
+    } else {
+        Ok(None)
+    }
+}
+
 #[test]
 fn a_running_sum(rt: HostRuntime) -> Result<(), Fail> {
     let alloc = rt.alloc();
-    let d = running_sum(alloc)?;
+    let mut defs = List::new(alloc);
+    defs.push(running_sum(alloc)?)?;
     let mut args = List::new(alloc);
     args.push(ints(&[1, 2, 3, -4], alloc)?)?;
-    assert!(rt; is_numbered(&d));
-    let row = node_row(&[], &[], 4, &d, args.as_slice(), alloc);
-    assert!(rt; matches!(&row, Ok(row) if says(row.as_slice(), &[1, 3, 6, 2])));
+    let answer = run(defs.as_slice(), 4, 0, args, alloc)?;
+    assert!(rt; matches!(&answer, Some(a) if says(a.row.as_slice(), &[1, 3, 6, 2])));
+    assert!(rt; matches!(&answer, Some(a) if tells(a.alarms.as_slice(), &[false, false, false, false])));
     Ok(())
 }
 
 #[test]
 fn a_delay_on_a_slow_clock(rt: HostRuntime) -> Result<(), Fail> {
     let alloc = rt.alloc();
-    let d = two_clocks(alloc)?;
+    let mut defs = List::new(alloc);
+    defs.push(two_clocks(alloc)?)?;
     let mut args = List::new(alloc);
     args.push(truths(&[true, false, false, true, false], alloc)?)?;
     args.push(ints(&[1, 2, 3, 4, 5], alloc)?)?;
-    assert!(rt; is_numbered(&d));
-    let row = node_row(&[], &[], 5, &d, args.as_slice(), alloc);
-    assert!(rt; matches!(&row, Ok(row) if says(row.as_slice(), &[1, 0, 2, 4, 3])));
+    let answer = run(defs.as_slice(), 5, 0, args, alloc)?;
+    assert!(rt; matches!(&answer, Some(a) if says(a.row.as_slice(), &[1, 0, 2, 4, 3])));
+    Ok(())
+}
+
+#[test]
+fn a_call_in_a_call(rt: HostRuntime) -> Result<(), Fail> {
+    let alloc = rt.alloc();
+    let mut defs = List::new(alloc);
+    defs.push(late(alloc)?)?;
+    defs.push(later(alloc)?)?;
+    let mut args = List::new(alloc);
+    args.push(ints(&[1, 2, 3, 4], alloc)?)?;
+    let answer = run(defs.as_slice(), 4, 1, args, alloc)?;
+    assert!(rt; matches!(&answer, Some(a) if says(a.row.as_slice(), &[0, 0, 1, 2])));
+    Ok(())
+}
+
+#[test]
+fn a_function_as_an_argument(rt: HostRuntime) -> Result<(), Fail> {
+    let alloc = rt.alloc();
+    let mut defs = List::new(alloc);
+    defs.push(late(alloc)?)?;
+    defs.push(apply(alloc)?)?;
+    defs.push(applied(alloc)?)?;
+    let mut args = List::new(alloc);
+    args.push(ints(&[1, 2, 3, 4], alloc)?)?;
+    let answer = run(defs.as_slice(), 4, 2, args, alloc)?;
+    assert!(rt; matches!(&answer, Some(a) if says(a.row.as_slice(), &[0, 1, 2, 3])));
+    Ok(())
+}
+
+#[test]
+fn a_division_by_zero_in_a_call(rt: HostRuntime) -> Result<(), Fail> {
+    let alloc = rt.alloc();
+    let mut defs = List::new(alloc);
+    defs.push(ratio(alloc)?)?;
+    defs.push(called_ratio(alloc)?)?;
+    let mut args = List::new(alloc);
+    args.push(ints(&[6, 7, 8], alloc)?)?;
+    args.push(ints(&[2, 0, 4], alloc)?)?;
+    let answer = run(defs.as_slice(), 3, 1, args, alloc)?;
+    assert!(rt; matches!(&answer, Some(a) if tells(a.alarms.as_slice(), &[false, true, false])));
     Ok(())
 }

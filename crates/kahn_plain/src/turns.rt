@@ -1,21 +1,17 @@
-//! The table of a body, turn by turn, and the row of a node's result.
+//! The table of a body, turn by turn.
 
-ghost use Rattle.std.specs.Prelude.{◌≡◌, ◌+◌, ◌++◌, ◌<◌, ◌^◌, ◌↔◌, [], ℕ, Some, IfOk, IsTrue, OnOk};
-ghost use Rattle.kahn_model.specs.Program.{case_place};
-ghost use Rattle.kahn_model.specs.Search.{count_up, nth};
-ghost use Rattle.kahn_model.specs.Table as spec;
-ghost use Rattle.kahn_plain.specs.Body.{args_of};
+ghost use Rattle.std.specs.Prelude.{◌≡◌, ◌+◌, ◌++◌, ◌<◌, ◌^◌, ◌↔◌, IfOk, IsTrue, OnOk};
+ghost use Rattle.kahn_exprs.specs.Body as spec;
+ghost use Rattle.kahn_model.specs.Search.{count_up};
+ghost use Rattle.kahn_model.specs.Table as rows;
+ghost use Rattle.kahn_plain.specs.Calls.{Serves};
 ghost use Rattle.kahn_plain.specs.Turns as own;
 
-use crate::Stopped;
-use crate::body::Body;
-use crate::equations::turn;
-use crate::expressions::cell;
-use kahn_cells::search::nth;
+use crate::equations::{turn_row, unknown_row};
+use crate::same::same_table;
+use kahn_exprs::{Body, Calls};
 use kahn_model::{Cell, Definition, Key};
-use ls_ast::DefOf;
 use ls_base::{List, NoMemory};
-use ls_sig::Note;
 use std::alloc::Global;
 
 /// The kinds of rows of a table.
@@ -38,224 +34,148 @@ fn key_of(kind: Kind, k: u32) -> Key
     }
 }
 
-/// A cell anew; at first none is known.
-fn fresh(
+/// A row anew; at first none of its cells is known.
+fn fresh_row<C: Calls>(
     body: &Body,
+    call: &C,
     first: bool,
     kind: Kind,
     k: u32,
-    i: usize,
     alloc: Global,
-) -> Result<Option<Cell>, Stopped>
-    requires { k + 1 < 2 ^ 32 }
-    ensures { IfOk result (λ r. r ≡ own.fresh body.now first (own.key_of kind k) i) }
+) -> Result<List<Option<Cell>>, NoMemory>
+    requires can { C.can call.now body.now }
+    requires number { k + 1 < 2 ^ 32 }
+    ensures { IfOk result (λ r. r ≡ rows.written_row body.now.lines 0 (own.fresh body.now first (own.key_of kind k))) }
 {
     if first {
-        Ok(None)
+        unknown_row(body.lines, alloc)
     } else {
-        turn(body, key_of(kind, k), i, alloc)
+        turn_row(body, call, key_of(kind, k), alloc)
     }
 }
 
-fn add_cells(
+fn add_rows<C: Calls>(
     body: &Body,
-    first: bool,
-    kind: Kind,
-    k: u32,
-    left: u32,
-    i: u32,
-    done: &mut List<Option<Cell>>,
-    alloc: Global,
-) -> Result<(), Stopped>
-    requires number { k + 1 < 2 ^ 32 }
-    requires lines { i + left < 2 ^ 32 }
-    ensures { OnOk result (done.new ≡ done.old ++ spec.written_row left i (own.fresh body.now first (own.key_of kind k))) }
-{
-    if left == 0 {
-        return Ok(());
-    }
-    done.push(fresh(body, first, kind, k, i as usize, alloc)?)?;
-    add_cells(body, first, kind, k, left - 1, i + 1, done, alloc)
-}
-
-fn row(
-    body: &Body,
-    first: bool,
-    kind: Kind,
-    k: u32,
-    alloc: Global,
-) -> Result<List<Option<Cell>>, Stopped>
-    requires { k + 1 < 2 ^ 32 }
-    ensures { IfOk result (λ r. r ≡ spec.written_row body.now.lines 0 (own.fresh body.now first (own.key_of kind k))) }
-{
-    let mut done = List::new(alloc);
-    add_cells(body, first, kind, k, body.lines, 0, &mut done, alloc)?;
-    Ok(done)
-}
-
-fn add_rows(
-    body: &Body,
+    call: &C,
     first: bool,
     kind: Kind,
     left: usize,
     k: u32,
     done: &mut List<(Key, List<Option<Cell>>)>,
     alloc: Global,
-) -> Result<(), Stopped>
-    requires { k + left < 2 ^ 32 }
+) -> Result<(), NoMemory>
+    requires can { C.can call.now body.now }
+    requires numbers { k + left < 2 ^ 32 }
     ensures { OnOk result (done.new ≡ done.old ++ own.rows_of body.now first kind (count_up left k)) }
 {
     if left == 0 {
         return Ok(());
     }
-    let cells = row(body, first, kind, k, alloc)?;
+    let cells = fresh_row(body, call, first, kind, k, alloc)?;
     done.push((key_of(kind, k), cells))?;
-    add_rows(body, first, kind, left - 1, k + 1, done, alloc)
+    add_rows(body, call, first, kind, left - 1, k + 1, done, alloc)
 }
 
 /// The rows of a kind.
-fn add_kind(
+fn add_kind<C: Calls>(
     body: &Body,
+    call: &C,
     first: bool,
     kind: Kind,
     done: &mut List<(Key, List<Option<Cell>>)>,
     alloc: Global,
-) -> Result<(), Stopped>
-    requires { own.AreNumbered body.now.def.now }
+) -> Result<(), NoMemory>
+    requires can { C.can call.now body.now }
+    requires numbers { own.AreNumbered body.now.def.now }
     ensures { OnOk result (done.new ≡ done.old ++ own.kind_rows body.now first kind) }
 {
     let places = &body.def.places;
     match kind {
-        Kind::Var => add_rows(body, first, Kind::Var, places.vars.len(), 0, done, alloc),
-        Kind::Start => add_rows(body, first, Kind::Start, places.vars.len(), 0, done, alloc),
+        Kind::Var => {
+            let count = places.vars.len();
+            add_rows(body, call, first, Kind::Var, count, 0, done, alloc)
+        }
+        Kind::Start => {
+            let count = places.vars.len();
+            add_rows(body, call, first, Kind::Start, count, 0, done, alloc)
+        }
         Kind::Name => {
             let from = body.def.params.len() as u32;
-            add_rows(
-                body,
-                first,
-                Kind::Name,
-                places.names.len(),
-                from,
-                done,
-                alloc,
-            )
+            let count = places.names.len();
+            add_rows(body, call, first, Kind::Name, count, from, done, alloc)
         }
-        Kind::Reset => add_rows(
-            body,
-            first,
-            Kind::Reset,
-            places.resets.len(),
-            0,
-            done,
-            alloc,
-        ),
+        Kind::Reset => {
+            let count = places.resets.len();
+            add_rows(body, call, first, Kind::Reset, count, 0, done, alloc)
+        }
     }
 }
 
 /// All rows anew.
-fn rows(body: &Body, first: bool, alloc: Global) -> Result<List<(Key, List<Option<Cell>>)>, Stopped>
-    requires { own.AreNumbered body.now.def.now }
+fn all_rows<C: Calls>(
+    body: &Body,
+    call: &C,
+    first: bool,
+    alloc: Global,
+) -> Result<List<(Key, List<Option<Cell>>)>, NoMemory>
+    requires can { C.can call.now body.now }
+    requires numbers { own.AreNumbered body.now.def.now }
     ensures { IfOk result (λ r. r ≡ own.all_rows body.now first) }
 {
     let mut done = List::new(alloc);
-    add_kind(body, first, Kind::Var, &mut done, alloc)?;
-    add_kind(body, first, Kind::Start, &mut done, alloc)?;
-    add_kind(body, first, Kind::Name, &mut done, alloc)?;
-    add_kind(body, first, Kind::Reset, &mut done, alloc)?;
+    add_kind(body, call, first, Kind::Var, &mut done, alloc)?;
+    add_kind(body, call, first, Kind::Start, &mut done, alloc)?;
+    add_kind(body, call, first, Kind::Name, &mut done, alloc)?;
+    add_kind(body, call, first, Kind::Reset, &mut done, alloc)?;
     Ok(done)
 }
 
-/// A turn: all rows anew from those before.
-fn next(
-    file: &[DefOf<Note>],
-    defs: &[Definition],
-    lines: u32,
-    def: &Definition,
-    args: &[List<Option<Cell>>],
+/// A turn: all rows anew from those before; at first none of their cells is known.
+fn next<C: Calls>(
+    body: &Body,
+    call: &C,
     before: &[(Key, List<Option<Cell>>)],
     first: bool,
     alloc: Global,
-) -> Result<List<(Key, List<Option<Cell>>)>, Stopped>
-    requires { own.AreNumbered def.now }
-    ensures { IfOk result (λ r. r ≡ own.next (case_place file.now) defs.now lines def.now args.now before.now first) }
+) -> Result<List<(Key, List<Option<Cell>>)>, NoMemory>
+    requires can { Serves (C.can call.now) body.now }
+    requires numbers { own.AreNumbered body.now.def.now }
+    ensures { IfOk result (λ r. r ≡ own.next body.now before.now first) }
 {
-    let body = Body {
-        file,
-        defs,
-        lines,
-        def,
-        args,
+    let then = Body {
+        file: body.file,
+        defs: body.defs,
+        lines: body.lines,
+        depth: body.depth,
+        def: body.def,
+        context: body.context,
         rows: before,
     };
-    rows(&body, first, alloc)
+    all_rows(&then, call, first, alloc)
 }
 
-/// The table of the body of a node: a turn for each of its cells. Its rows are the variables,
-/// the initial equations, the blocks and the conditions of `reset`, with a cell for each line.
-/// The answer `Call` comes only where the body holds a call or names a definition.
-pub fn table(
-    file: &[DefOf<Note>],
-    defs: &[Definition],
-    lines: u32,
-    def: &Definition,
-    args: &[List<Option<Cell>>],
+/// The table of a body: turns over all its rows, until one gives the same table again, and at
+/// most one for each cell. Its rows are the variables, the initial equations, the blocks and the
+/// conditions of `reset`, with a cell for each line. The table that stands in `body` is not asked.
+pub fn table<C: Calls>(
+    body: &Body,
+    call: &C,
     alloc: Global,
-) -> Result<List<(Key, List<Option<Cell>>)>, Stopped>
-    requires { own.AreNumbered def.now }
-    ensures table { IfOk result (λ r. r ≡ own.table (case_place file.now) defs.now lines def.now args.now) }
+) -> Result<List<(Key, List<Option<Cell>>)>, NoMemory>
+    requires can { Serves (C.can call.now) body.now }
+    requires numbers { own.AreNumbered body.now.def.now }
+    ensures table { IfOk result (λ r. r ≡ rows.table_of (spec.cases body.now) body.now.defs.now body.now.lines (spec.call body.now) body.now.def.now (spec.around body.now)) }
 {
-    let mut known = next(file, defs, lines, def, args, &[], true, alloc)?;
-    let total = known.len() * lines as usize;
+    let mut known = next(body, call, &[], true, alloc)?;
+    let total = known.len() * body.lines as usize;
     for at in 0..total {
-        known = next(file, defs, lines, def, args, known.as_slice(), false, alloc)?;
+        let more = next(body, call, known.as_slice(), false, alloc)?;
+        if same_table(more.as_slice(), known.as_slice()) {
+            return Ok(known);
+        }
+        known = more;
     }
     Ok(known)
-}
-
-fn add_answers(
-    body: &Body,
-    left: u32,
-    i: u32,
-    done: &mut List<Option<Cell>>,
-    alloc: Global,
-) -> Result<(), Stopped>
-    requires { i + left < 2 ^ 32 }
-    ensures { OnOk result (done.new ≡ done.old ++ spec.written_row left i (own.answer body.now)) }
-{
-    if left == 0 {
-        return Ok(());
-    }
-    done.push(cell(body, &[], &body.def.result, i as usize, alloc)?)?;
-    add_answers(body, left - 1, i + 1, done, alloc)
-}
-
-/// The row of the result of a node, with a cell for each line, as the network of streams of the
-/// program gives it. The answer `Call` comes only where the body holds a call or names a
-/// definition.
-pub fn node_row(
-    file: &[DefOf<Note>],
-    defs: &[Definition],
-    lines: u32,
-    def: &Definition,
-    args: &[List<Option<Cell>>],
-    alloc: Global,
-) -> Result<List<Option<Cell>>, Stopped>
-    requires { own.AreNumbered def.now }
-    ensures row { IfOk result (λ r. r ≡ spec.written_row lines 0 (own.result_row (case_place file.now) defs.now lines def.now args.now)) }
-    ensures network { (k : ℕ) → nth defs.now k ≡ Some def.now → IfOk result (λ r. r ≡ spec.written_row lines 0 (spec.network (case_place file.now) defs.now lines k (args_of args.now))) }
-{
-    let known = table(file, defs, lines, def, args, alloc)?;
-    let body = Body {
-        file,
-        defs,
-        lines,
-        def,
-        args,
-        rows: known.as_slice(),
-    };
-    let mut done = List::new(alloc);
-    add_answers(&body, lines, 0, &mut done, alloc)?;
-    Ok(done)
 }
 
 /// Whether the clock names of a definition can all be numbered.
@@ -263,4 +183,14 @@ pub fn is_numbered(def: &Definition) -> bool
     ensures { IsTrue result ↔ own.AreNumbered def.now }
 {
     def.params.len() + def.places.names.len() < 4_294_967_296
+}
+
+/// Whether the clock names of each definition can all be numbered.
+pub fn are_numbered(defs: &[Definition]) -> bool
+    ensures { IsTrue result ↔ own.AllNumbered defs.now }
+{
+    match defs {
+        [] => true,
+        [d, rest @ ..] => is_numbered(d) && are_numbered(rest),
+    }
 }

@@ -1,5 +1,0 @@
-use Rattle.std.proofs.Common.{length}
-use Rattle.kahn_exprs.proofs.body.+cell_in.Given as goal
-
-abbrev pub decreases-cell_in : goal.decreases-cell_in
-decreases-cell_in l = length l.cells.now

@@ -1,4 +1,0 @@
-use Rattle.kahn_plain.proofs.turns.+add_cells.Given as goal
-
-abbrev pub decreases-add_cells : goal.decreases-add_cells
-decreases-add_cells l = l.left
