@@ -5,7 +5,13 @@ use Rattle.ls_ast.specs.declared.tree.Expr.{Expr}
 use Rattle.ls_ast.specs.declared.tree.Equation.{Equation, fold-Equation}
 use Rattle.ls_ast.specs.declared.tree.Equation.TheOpen.{Equation-F, Arm-F, Guard-F, Handler-F, State-F, Test-F}
 use Rattle.ls_ast.specs.declared.tree.BodyOf.{BodyOf}
+use Rattle.ls_ast.specs.declared.tree.Arm.{Arm, fold-Arm}
+use Rattle.ls_ast.specs.declared.tree.Guard.{Guard, fold-Guard}
+use Rattle.ls_ast.specs.declared.tree.Handler.{Handler, fold-Handler}
+use Rattle.ls_ast.specs.declared.tree.State.{State, fold-State}
+use Rattle.ls_ast.specs.declared.tree.Test.{Test, fold-Test}
 use Rattle.ls_sig.specs.Patterns.{names_of}
+use Rattle.ls_sig.specs.declared.around.Where.{Where}
 use Rattle.ls_sig.specs.declared.places.Frame.{Frame}
 use Rattle.ls_sig.specs.declared.places.Frame.TheVariants as frame
 use Rattle.ls_sig.specs.declared.places.Right.{Right}
@@ -35,12 +41,8 @@ same_arms [] [] = true
 same_arms (a ∷ p) (b ∷ q) = a.0 == b.0 && (a.1 == b.1 && same_arms p q)
 same_arms _ _ = false
 
--- where an equation stands: its place, the place of its outermost block within the list of equations that binds its
--- names, and the arms between that list and the equation
-pub record Where : Type 0 where
-  pub place : Place
-  pub block : Option Place
-  pub inner : List InnerArm
+-- Where an equation stands is its place, the place of its outermost block within the list of equations that binds its
+-- names, and the arms between that list and the equation.
 
 -- the place of what binds a name in its list: the equation or the block
 abbrev pub spot : Where → Place
@@ -101,6 +103,13 @@ module _ (N : Type 0) where
 
   abbrev pub naming : Named N → Found → Found
   naming n f = record f { names = f.names ++ n ∷ [] }
+
+  -- the clock name of `clock x = ..`
+  abbrev pub clock_at : ℕ → Where → Found → Found
+  clock_at x w f = naming (named.Clock (unwrap_or (place_of x (arms (spot w)) f.vars 0) 0)) f
+
+  abbrev pub start_at : ℕ → E → Where → Found → Found
+  start_at x e w f = record f { starts = f.starts ++ record { name = x; list = arms (spot w); right = e; place = w.place } ∷ [] }
 
   -- the walk in the order of the text
   abbrev pub Walk : Type 0
@@ -183,12 +192,6 @@ module _ (N : Type 0) where
     abbrev pub reset_at : E → Walk → Where → Found → Found
     reset_at e inside w f = inside (in_reset (length f.resets) w) (reading e w.place (record f { resets = f.resets ++ (e, w.place) ∷ [] }))
 
-    abbrev pub clock_at : ℕ → Where → Found → Found
-    clock_at x w f = naming (named.Clock (unwrap_or (place_of x (arms (spot w)) f.vars 0) 0)) f
-
-    abbrev pub start_at : ℕ → E → Where → Found → Found
-    start_at x e w f = record f { starts = f.starts ++ record { name = x; list = arms (spot w); right = e; place = w.place } ∷ [] }
-
     abbrev pub equation_step : Equation-F N Walk AnArm AGuard InArm AState ATest → Walk
     equation_step (Equation-F.Plain p e) w f = bind_all (names_of p) (signal e.note) (rhs.Part p e) w (reading e w.place f)
     equation_step (Equation-F.Clock x e) w f = clock_at x.0 w (bind x.0 false (rhs.Whole e) w (reading e w.place f))
@@ -229,6 +232,21 @@ module _ (N : Type 0) where
 
     abbrev pub walk_of : Equation N → Walk
     walk_of = fold-Equation N Walk AnArm AGuard InArm AState ATest equation_step arm_step guard_step handler_step state_step test_step
+
+    abbrev pub arm_of : Arm N → AnArm
+    arm_of = fold-Arm N Walk AnArm AGuard InArm AState ATest equation_step arm_step guard_step handler_step state_step test_step
+
+    abbrev pub guard_of : Guard N → AGuard
+    guard_of = fold-Guard N Walk AnArm AGuard InArm AState ATest equation_step arm_step guard_step handler_step state_step test_step
+
+    abbrev pub handler_of : Handler N → InArm
+    handler_of = fold-Handler N Walk AnArm AGuard InArm AState ATest equation_step arm_step guard_step handler_step state_step test_step
+
+    abbrev pub state_of : State N → AState
+    state_of = fold-State N Walk AnArm AGuard InArm AState ATest equation_step arm_step guard_step handler_step state_step test_step
+
+    abbrev pub test_of : Test N → ATest
+    test_of = fold-Test N Walk AnArm AGuard InArm AState ATest equation_step arm_step guard_step handler_step state_step test_step
 
     abbrev pub walk_body : List (Equation N) → Walk
     walk_body eqs = walk_all (map walk_of eqs)

@@ -2,11 +2,15 @@
 //! definition.
 #![tactic(auto)]
 
+mod around;
+mod bind;
 mod binder;
+mod noted;
 mod places;
 mod sigs;
 
 pub use binder::{Ann, Binder, Note, Resolved, TypeNote, Typed, Use};
+pub use noted::{CasePlaces, SignalNote};
 pub use places::{Frame, Named, Places, Right, Site, Start, Transition, Variable};
 pub use sigs::{InitSig, InitSigs, Item, Ranks, Sig};
 
