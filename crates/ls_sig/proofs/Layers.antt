@@ -1,12 +1,10 @@
 -- One layer of the walk, and what a block keeps of its arms.
-use Rattle.std.specs.Prelude.{◌≡◌, ℕ, ◌+◌, Bool, List, [], ◌∷◌, ◌++◌, map, length, Option, Some, None, option_map, refl}
-use Rattle.std.proofs.Common.{ap, ap₂, sym, ◌∙◌}
+use Rattle.std.specs.Prelude.{◌≡◌, ℕ, Bool, List, [], ◌∷◌, map, Option, refl}
+use Rattle.std.proofs.Common.{ap, ap₂, ◌∙◌}
 use Rattle.ls_ast.specs.declared.tree.Arm.{Arm, fold_out-Arm}
 use Rattle.ls_ast.specs.declared.tree.Guard.{Guard, fold_out-Guard}
-use Rattle.ls_ast.specs.declared.tree.Handler.{Handler, fold_out-Handler}
 use Rattle.ls_ast.specs.declared.tree.State.{State, out-State, fold_out-State}
 use Rattle.ls_ast.specs.declared.tree.Test.{Test, fold_out-Test}
-use Rattle.ls_sig.specs.declared.places.Transition.{Transition}
 use Rattle.ls_sig.specs.Blocks.{case_of, signal_of, transition_of, strong_of, weak_of}
 use Rattle.ls_sig.specs.Places
 
