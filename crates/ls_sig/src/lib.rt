@@ -19,3 +19,5 @@ pub use walk::find;
 
 #[cfg(test)]
 mod tests;
+#[cfg(test)]
+mod walk_tests;
