@@ -14,7 +14,7 @@ use ls_ast::{Arm, BodyOf, Equation, Expr, Guard, Handler, Pat, State, Test};
 use ls_base::{List, NoMemory, NoteCopy};
 use std::alloc::Global;
 
-/// The greatest number of clock names.
+/// The greatest number of items of a list.
 const MOST: usize = 4_294_967_294;
 
 /// What a walk is given beside the body.
@@ -83,8 +83,8 @@ fn walk_emit<N: NoteCopy>(
     bind(x, true, &right, w, found, alloc)
 }
 
-/// The number of the next clock name, where there are so many already. It is refused where these
-/// are as many as a list may have items, as no block is asked for more.
+/// The number of the next clock name, after `first` parameters and `count` clock names. It is
+/// refused where these are as many as a list may have items, since no block is asked for more.
 fn next_number(first: u32, count: usize) -> Result<u32, NoMemory>
     requires { count < 2 ^ 32 }
     ensures number { IfOk result (λ m. m ≡ first + count) }
@@ -298,10 +298,10 @@ fn walk_handler<N: NoteCopy + SignalNote, C: CasePlaces>(
 ) -> Result<(), NoMemory>
     ensures { OnOk result (found.new ≡ spec.handler_of N given.now.first (C.place given.now.cases.now) N.signal handler.now m j w.now found.old) }
 {
-    let inside = w.in_let(m, j, given.alloc)?;
-    walk_all(handler.locals.as_slice(), &inside, given, found)?;
-    let inside = w.in_do(m, j, given.alloc)?;
-    walk_all(handler.eqs.as_slice(), &inside, given, found)
+    let local = w.in_let(m, j, given.alloc)?;
+    let shared = w.in_do(m, j, given.alloc)?;
+    walk_all(handler.locals.as_slice(), &local, given, found)?;
+    walk_all(handler.eqs.as_slice(), &shared, given, found)
 }
 
 #[cycle(walk)]
@@ -374,7 +374,7 @@ fn walk_guard<N: NoteCopy + SignalNote, C: CasePlaces>(
 
 /// What stands in the body of a definition, with its places. `first` is the number of the
 /// definition's parameters. It is refused where memory is, and where the parameters and the clock
-/// names are more than a list may have items, since no block is asked for more.
+/// names are as many as a list may have items, since no block is asked for more.
 pub fn find<N: NoteCopy + SignalNote, C: CasePlaces>(
     first: u32,
     cases: &C,
