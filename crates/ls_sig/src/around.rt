@@ -47,22 +47,6 @@ pub fn arms(place: &[Frame], alloc: Global) -> Result<List<(u32, u32)>, NoMemory
     Ok(done)
 }
 
-/// Whether two lists of arms are the same.
-pub fn same_arms(p: &[(u32, u32)], q: &[(u32, u32)]) -> bool
-    ensures { result ≡ spec.same_arms p.now q.now }
-{
-    match p {
-        [] => match q {
-            [] => true,
-            [_, ..] => false,
-        },
-        [a, more @ ..] => match q {
-            [] => false,
-            [b, rest @ ..] => a.0 == b.0 && a.1 == b.1 && same_arms(more, rest),
-        },
-    }
-}
-
 /// The place where nothing is around.
 pub fn at_top(alloc: Global) -> Where
     ensures { result ≡ spec.at_top }

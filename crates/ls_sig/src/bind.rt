@@ -1,13 +1,15 @@
 //! Names that are bound, and expressions that are read.
 
-ghost use Rattle.std.specs.Prelude.{◌≡◌, ◌+◌, ◌<◌, ◌^◌, ◌∷◌, [], ◌++◌, OnOk, IfOk, length, map, option_map};
+ghost use Rattle.std.specs.Prelude.{◌≡◌, ◌≤◌, ◌∷◌, [], ◌++◌, OnOk, IfOk, length, map, option_map};
 ghost use Rattle.ls_sig.specs.Patterns.{joined, names_of};
+ghost use Rattle.ls_sig.specs.Built.{built};
 ghost use Rattle.ls_sig.specs.Places as spec;
 
-use crate::around::{Where, arms, same_arms};
+use crate::around::{Where, arms};
 use crate::places::{Frame, Named, Places, Right, Site, Start, Variable};
+use crate::vars::Variables;
 use ls_ast::{Expr, Pat};
-use ls_base::{List, Name, NoMemory, NoteCopy};
+use ls_base::{List, NoMemory, NoteCopy};
 use std::alloc::Global;
 
 impl<N: NoteCopy> NoteCopy for Right<N> {
@@ -16,6 +18,69 @@ impl<N: NoteCopy> NoteCopy for Right<N> {
             Right::Part(pat, e) => Ok(Right::Part(pat.copy(alloc)?, e.copy(alloc)?)),
             Right::Whole(e) => Ok(Right::Whole(e.copy(alloc)?)),
             Right::Pattern(name, pat) => Ok(Right::Pattern(*name, pat.copy(alloc)?)),
+        }
+    }
+}
+
+/// What a walk has found so far.
+#[derive(Drop)]
+pub struct PlacesBuilder<N> {
+    vars: Variables,
+    sites: List<Site<N>>,
+    starts: List<Start<N>>,
+    names: List<Named<N>>,
+    resets: List<(Expr<N>, List<Frame>)>,
+    exprs: List<(Expr<N>, List<Frame>)>,
+}
+
+impl<N> PlacesBuilder<N> {
+    pub fn new(alloc: Global) -> PlacesBuilder<N>
+        ensures { built result ≡ spec.nothing N }
+    {
+        PlacesBuilder {
+            vars: Variables::new(alloc),
+            sites: List::new(alloc),
+            starts: List::new(alloc),
+            names: List::new(alloc),
+            resets: List::new(alloc),
+            exprs: List::new(alloc),
+        }
+    }
+
+    /// The number of clock names.
+    pub fn name_count(&self) -> usize
+        ensures value { result ≡ length self.now.names }
+        ensures few { result ≤ 4294967294 }
+    {
+        self.names.len()
+    }
+
+    /// The number of conditions of `reset`.
+    pub fn reset_count(&self) -> usize
+        ensures value { result ≡ length self.now.resets }
+        ensures few { result ≤ 4294967294 }
+    {
+        self.resets.len()
+    }
+
+    pub fn finish(self) -> Places<N>
+        ensures { result ≡ built self }
+    {
+        let PlacesBuilder {
+            vars,
+            sites,
+            starts,
+            names,
+            resets,
+            exprs,
+        } = self;
+        Places {
+            vars: vars.into_list(),
+            sites,
+            starts,
+            names,
+            resets,
+            exprs,
         }
     }
 }
@@ -54,55 +119,6 @@ fn names_in(pat: &Pat, alloc: Global) -> Result<List<u32>, NoMemory>
     Ok(done)
 }
 
-/// The number of the variable that a list binds by this name, counted from k.
-fn place_of(x: u32, list: &[(u32, u32)], all: &[Variable], k: u32) -> Option<u32>
-    requires { k + length all.now < 2 ^ 32 }
-    ensures { result ≡ spec.place_of x list.now all.now k }
-{
-    match all {
-        [] => None,
-        [v, rest @ ..] => {
-            if v.name == x && same_arms(v.list.as_slice(), list) {
-                Some(k)
-            } else {
-                place_of(x, list, rest, k + 1)
-            }
-        }
-    }
-}
-
-/// The number of the variable that binds this name where an equation stands.
-fn variable_at(
-    x: u32,
-    w: &Where,
-    all: &List<Variable>,
-    alloc: Global,
-) -> Result<Option<u32>, NoMemory>
-    ensures { IfOk result (λ r. r ≡ spec.place_of x (spec.arms (spec.spot w.now)) all.now 0) }
-{
-    let list = arms(w.spot().as_slice(), alloc)?;
-    Ok(place_of(x, list.as_slice(), all.as_slice(), 0))
-}
-
-fn add_variable(
-    x: u32,
-    signal: bool,
-    w: &Where,
-    all: &mut List<Variable>,
-    alloc: Global,
-) -> Result<(), NoMemory>
-    ensures { OnOk result (all.new ≡ all.old ++ record { name = x; list = spec.arms (spec.spot w.now); place = spec.spot w.now; signal = signal } ∷ []) }
-{
-    let list = arms(w.spot().as_slice(), alloc)?;
-    let place = w.spot().copy(alloc)?;
-    all.push(Variable {
-        name: x,
-        list,
-        place,
-        signal,
-    })
-}
-
 fn add_site<N: NoteCopy>(
     var: u32,
     right: &Right<N>,
@@ -130,16 +146,23 @@ pub fn bind<N: NoteCopy>(
     signal: bool,
     right: &Right<N>,
     w: &Where,
-    found: &mut Places<N>,
+    found: &mut PlacesBuilder<N>,
     alloc: Global,
 ) -> Result<(), NoMemory>
-    ensures { OnOk result (found.new ≡ spec.bind N x signal right.now w.now found.old) }
+    ensures { OnOk result (built found.new ≡ spec.bind N x signal right.now w.now (built found.old)) }
 {
-    match variable_at(x, w, &found.vars, alloc)? {
+    let list = arms(w.spot().as_slice(), alloc)?;
+    match found.vars.place_of(x, list.as_slice(), alloc)? {
         Some(k) => add_site(k, right, w, &mut found.sites, alloc),
         None => {
             let k = found.vars.len() as u32;
-            add_variable(x, signal, w, &mut found.vars, alloc)?;
+            let variable = Variable {
+                name: x,
+                list,
+                place: w.spot().copy(alloc)?,
+                signal,
+            };
+            found.vars.add(variable, alloc)?;
             add_site(k, right, w, &mut found.sites, alloc)
         }
     }
@@ -150,10 +173,10 @@ fn bind_all<N: NoteCopy>(
     signal: bool,
     right: &Right<N>,
     w: &Where,
-    found: &mut Places<N>,
+    found: &mut PlacesBuilder<N>,
     alloc: Global,
 ) -> Result<(), NoMemory>
-    ensures { OnOk result (found.new ≡ spec.bind_all N names.now signal right.now w.now found.old) }
+    ensures { OnOk result (built found.new ≡ spec.bind_all N names.now signal right.now w.now (built found.old)) }
 {
     match names {
         [] => Ok(()),
@@ -170,10 +193,10 @@ pub fn bind_names<N: NoteCopy>(
     signal: bool,
     right: &Right<N>,
     w: &Where,
-    found: &mut Places<N>,
+    found: &mut PlacesBuilder<N>,
     alloc: Global,
 ) -> Result<(), NoMemory>
-    ensures { OnOk result (found.new ≡ spec.bind_all N (names_of pat.now) signal right.now w.now found.old) }
+    ensures { OnOk result (built found.new ≡ spec.bind_all N (names_of pat.now) signal right.now w.now (built found.old)) }
 {
     let names = names_in(pat, alloc)?;
     bind_all(names.as_slice(), signal, right, w, found, alloc)
@@ -184,10 +207,10 @@ pub fn bind_pattern<N: NoteCopy>(
     s: u32,
     pat: &Option<Pat>,
     w: &Where,
-    found: &mut Places<N>,
+    found: &mut PlacesBuilder<N>,
     alloc: Global,
 ) -> Result<(), NoMemory>
-    ensures { OnOk result (found.new ≡ spec.bind_pattern N s pat.now w.now found.old) }
+    ensures { OnOk result (built found.new ≡ spec.bind_pattern N s pat.now w.now (built found.old)) }
 {
     match pat {
         None => Ok(()),
@@ -202,10 +225,10 @@ pub fn bind_pattern<N: NoteCopy>(
 pub fn reading<N: NoteCopy>(
     e: &Expr<N>,
     place: &List<Frame>,
-    found: &mut Places<N>,
+    found: &mut PlacesBuilder<N>,
     alloc: Global,
 ) -> Result<(), NoMemory>
-    ensures { OnOk result (found.new ≡ spec.reading N e.now place.now found.old) }
+    ensures { OnOk result (built found.new ≡ spec.reading N e.now place.now (built found.old)) }
 {
     let e = e.copy(alloc)?;
     let place = place.copy(alloc)?;
@@ -213,8 +236,8 @@ pub fn reading<N: NoteCopy>(
 }
 
 /// One more clock name.
-pub fn naming<N: NoteCopy>(named: Named<N>, found: &mut Places<N>) -> Result<(), NoMemory>
-    ensures { OnOk result (found.new ≡ spec.naming N named found.old) }
+pub fn naming<N: NoteCopy>(named: Named<N>, found: &mut PlacesBuilder<N>) -> Result<(), NoMemory>
+    ensures { OnOk result (built found.new ≡ spec.naming N named (built found.old)) }
 {
     found.names.push(named)
 }
@@ -223,12 +246,13 @@ pub fn naming<N: NoteCopy>(named: Named<N>, found: &mut Places<N>) -> Result<(),
 pub fn clock_at<N: NoteCopy>(
     x: u32,
     w: &Where,
-    found: &mut Places<N>,
+    found: &mut PlacesBuilder<N>,
     alloc: Global,
 ) -> Result<(), NoMemory>
-    ensures { OnOk result (found.new ≡ spec.clock_at N x w.now found.old) }
+    ensures { OnOk result (built found.new ≡ spec.clock_at N x w.now (built found.old)) }
 {
-    let var = match variable_at(x, w, &found.vars, alloc)? {
+    let list = arms(w.spot().as_slice(), alloc)?;
+    let var = match found.vars.place_of(x, list.as_slice(), alloc)? {
         Some(k) => k,
         None => 0,
     };
@@ -240,10 +264,10 @@ pub fn start_at<N: NoteCopy>(
     x: u32,
     e: &Expr<N>,
     w: &Where,
-    found: &mut Places<N>,
+    found: &mut PlacesBuilder<N>,
     alloc: Global,
 ) -> Result<(), NoMemory>
-    ensures { OnOk result (found.new ≡ spec.start_at N x e.now w.now found.old) }
+    ensures { OnOk result (built found.new ≡ spec.start_at N x e.now w.now (built found.old)) }
 {
     let list = arms(w.spot().as_slice(), alloc)?;
     let right = e.copy(alloc)?;
@@ -254,4 +278,18 @@ pub fn start_at<N: NoteCopy>(
         right,
         place,
     })
+}
+
+/// One more condition of `reset`.
+pub fn add_reset<N: NoteCopy>(
+    e: &Expr<N>,
+    place: &List<Frame>,
+    found: &mut PlacesBuilder<N>,
+    alloc: Global,
+) -> Result<(), NoMemory>
+    ensures { OnOk result (built found.new ≡ record (built found.old) { resets = found.old.resets ++ (e.now, place.now) ∷ [] }) }
+{
+    let e = e.copy(alloc)?;
+    let place = place.copy(alloc)?;
+    found.resets.push((e, place))
 }

@@ -9,6 +9,7 @@ mod blocks;
 mod noted;
 mod places;
 mod sigs;
+mod vars;
 mod walk;
 
 pub use binder::{Ann, Binder, Note, Resolved, TypeNote, Typed, Use};

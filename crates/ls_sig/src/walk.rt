@@ -3,10 +3,13 @@
 ghost use Rattle.std.specs.Prelude.{◌≡◌, ◌+◌, ◌<◌, ◌^◌, [], ◌∷◌, ◌++◌, true, false, OnOk, IfOk, map, option_map, length};
 ghost use Rattle.ls_sig.specs.Blocks.{case_of, signal_of, strong_of, weak_of};
 ghost use Rattle.ls_sig.specs.Patterns.{names_of};
+ghost use Rattle.ls_sig.specs.Built.{built};
 ghost use Rattle.ls_sig.specs.Places as spec;
 
 use crate::around::{Where, at_top};
-use crate::bind::{bind, bind_names, bind_pattern, clock_at, naming, reading, start_at};
+use crate::bind::{
+    PlacesBuilder, add_reset, bind, bind_names, bind_pattern, clock_at, naming, reading, start_at,
+};
 use crate::blocks::{cases_of, signals_of, strongs_of, weaks_of};
 use crate::noted::{CasePlaces, SignalNote};
 use crate::places::{Named, Places, Right};
@@ -31,10 +34,10 @@ fn walk_plain<N: NoteCopy + SignalNote>(
     pat: &Pat,
     e: &Expr<N>,
     w: &Where,
-    found: &mut Places<N>,
+    found: &mut PlacesBuilder<N>,
     alloc: Global,
 ) -> Result<(), NoMemory>
-    ensures { OnOk result (found.new ≡ spec.bind_all N (names_of pat.now) (N.signal e.now.note) (Right.Part pat.now e.now) w.now (spec.reading N e.now w.now.place found.old)) }
+    ensures { OnOk result (built found.new ≡ spec.bind_all N (names_of pat.now) (N.signal e.now.note) (Right.Part pat.now e.now) w.now (spec.reading N e.now w.now.place (built found.old))) }
 {
     let right = Right::Part(pat.copy(alloc)?, e.copy(alloc)?);
     reading(e, &w.place, found, alloc)?;
@@ -45,10 +48,10 @@ fn walk_clock<N: NoteCopy>(
     x: u32,
     e: &Expr<N>,
     w: &Where,
-    found: &mut Places<N>,
+    found: &mut PlacesBuilder<N>,
     alloc: Global,
 ) -> Result<(), NoMemory>
-    ensures { OnOk result (found.new ≡ spec.clock_at N x w.now (spec.bind N x false (Right.Whole e.now) w.now (spec.reading N e.now w.now.place found.old))) }
+    ensures { OnOk result (built found.new ≡ spec.clock_at N x w.now (spec.bind N x false (Right.Whole e.now) w.now (spec.reading N e.now w.now.place (built found.old)))) }
 {
     let right = Right::Whole(e.copy(alloc)?);
     reading(e, &w.place, found, alloc)?;
@@ -60,10 +63,10 @@ fn walk_initial<N: NoteCopy>(
     x: u32,
     e: &Expr<N>,
     w: &Where,
-    found: &mut Places<N>,
+    found: &mut PlacesBuilder<N>,
     alloc: Global,
 ) -> Result<(), NoMemory>
-    ensures { OnOk result (found.new ≡ spec.reading N e.now w.now.place (spec.start_at N x e.now w.now found.old)) }
+    ensures { OnOk result (built found.new ≡ spec.reading N e.now w.now.place (spec.start_at N x e.now w.now (built found.old))) }
 {
     start_at(x, e, w, found, alloc)?;
     reading(e, &w.place, found, alloc)
@@ -73,10 +76,10 @@ fn walk_emit<N: NoteCopy>(
     x: u32,
     e: &Expr<N>,
     w: &Where,
-    found: &mut Places<N>,
+    found: &mut PlacesBuilder<N>,
     alloc: Global,
 ) -> Result<(), NoMemory>
-    ensures { OnOk result (found.new ≡ spec.bind N x true (Right.Whole e.now) w.now (spec.reading N e.now w.now.place found.old)) }
+    ensures { OnOk result (built found.new ≡ spec.bind N x true (Right.Whole e.now) w.now (spec.reading N e.now w.now.place (built found.old))) }
 {
     let right = Right::Whole(e.copy(alloc)?);
     reading(e, &w.place, found, alloc)?;
@@ -101,14 +104,14 @@ fn next_number(first: u32, count: usize) -> Result<u32, NoMemory>
 fn open_reset<N: NoteCopy>(
     e: &Expr<N>,
     w: &Where,
-    found: &mut Places<N>,
+    found: &mut PlacesBuilder<N>,
     alloc: Global,
 ) -> Result<Where, NoMemory>
     ensures inside { IfOk result (λ v. v ≡ spec.in_reset (length found.old.resets) w.now) }
-    ensures found { OnOk result (found.new ≡ spec.reading N e.now w.now.place (record found.old { resets = found.old.resets ++ (e.now, w.now.place) ∷ [] })) }
+    ensures found { OnOk result (built found.new ≡ spec.reading N e.now w.now.place (record (built found.old) { resets = found.old.resets ++ (e.now, w.now.place) ∷ [] })) }
 {
-    let inside = w.in_reset(found.resets.len() as u32, alloc)?;
-    found.resets.push((e.copy(alloc)?, w.place.copy(alloc)?))?;
+    let inside = w.in_reset(found.reset_count() as u32, alloc)?;
+    add_reset(e, &w.place, found, alloc)?;
     reading(e, &w.place, found, alloc)?;
     Ok(inside)
 }
@@ -119,13 +122,13 @@ fn open_match<N: NoteCopy, C: CasePlaces>(
     arms: &[Arm<N>],
     w: &Where,
     given: &Given<C>,
-    found: &mut Places<N>,
+    found: &mut PlacesBuilder<N>,
 ) -> Result<u32, NoMemory>
     ensures number { IfOk result (λ m. m ≡ given.now.first + length found.old.names) }
-    ensures found { OnOk result (found.new ≡ spec.naming N (Named.Match e.now (map (case_of (C.place given.now.cases.now)) arms.now) w.now.place) (spec.reading N e.now w.now.place found.old)) }
+    ensures found { OnOk result (built found.new ≡ spec.naming N (Named.Match e.now (map (case_of (C.place given.now.cases.now)) arms.now) w.now.place) (spec.reading N e.now w.now.place (built found.old))) }
 {
     let alloc = given.alloc;
-    let number = next_number(given.first, found.names.len())?;
+    let number = next_number(given.first, found.name_count())?;
     let cases = cases_of(arms, given.cases, alloc)?;
     let named = Named::Match(e.copy(alloc)?, cases, w.place.copy(alloc)?);
     reading(e, &w.place, found, alloc)?;
@@ -138,13 +141,13 @@ fn open_present<N: NoteCopy>(
     tests: &[Test<N>],
     w: &Where,
     first: u32,
-    found: &mut Places<N>,
+    found: &mut PlacesBuilder<N>,
     alloc: Global,
 ) -> Result<u32, NoMemory>
     ensures number { IfOk result (λ m. m ≡ first + length found.old.names) }
-    ensures found { OnOk result (found.new ≡ spec.naming N (Named.Present (map signal_of tests.now) w.now.place) found.old) }
+    ensures found { OnOk result (built found.new ≡ spec.naming N (Named.Present (map signal_of tests.now) w.now.place) (built found.old)) }
 {
-    let number = next_number(first, found.names.len())?;
+    let number = next_number(first, found.name_count())?;
     let named = Named::Present(signals_of(tests, alloc)?, w.place.copy(alloc)?);
     naming(named, found)?;
     Ok(number)
@@ -155,14 +158,14 @@ fn open_automaton<N: NoteCopy>(
     states: &[State<N>],
     w: &Where,
     first: u32,
-    found: &mut Places<N>,
+    found: &mut PlacesBuilder<N>,
     alloc: Global,
 ) -> Result<u32, NoMemory>
     ensures number { IfOk result (λ m. m ≡ first + length found.old.names) }
     ensures room { IfOk result (λ m. m + 1 < 2 ^ 32) }
-    ensures found { OnOk result (found.new ≡ spec.naming N (Named.Tested (map weak_of states.now) w.now.place) (spec.naming N (Named.Active (map strong_of states.now) w.now.place) found.old)) }
+    ensures found { OnOk result (built found.new ≡ spec.naming N (Named.Tested (map weak_of states.now) w.now.place) (spec.naming N (Named.Active (map strong_of states.now) w.now.place) (built found.old))) }
 {
-    let number = next_number(first, found.names.len())?;
+    let number = next_number(first, found.name_count())?;
     let active = Named::Active(strongs_of(states, alloc)?, w.place.copy(alloc)?);
     let tested = Named::Tested(weaks_of(states, alloc)?, w.place.copy(alloc)?);
     naming(active, found)?;
@@ -175,9 +178,9 @@ fn walk_all<N: NoteCopy + SignalNote, C: CasePlaces>(
     all: &[Equation<N>],
     w: &Where,
     given: &Given<C>,
-    found: &mut Places<N>,
+    found: &mut PlacesBuilder<N>,
 ) -> Result<(), NoMemory>
-    ensures { OnOk result (found.new ≡ spec.walk_all N (map (spec.walk_of N given.now.first (C.place given.now.cases.now) N.signal) all.now) w.now found.old) }
+    ensures { OnOk result (built found.new ≡ spec.walk_all N (map (spec.walk_of N given.now.first (C.place given.now.cases.now) N.signal) all.now) w.now (built found.old)) }
 {
     for eq in all {
         walk_equation(eq, w, given, found)?;
@@ -190,9 +193,9 @@ fn walk_equation<N: NoteCopy + SignalNote, C: CasePlaces>(
     eq: &Equation<N>,
     w: &Where,
     given: &Given<C>,
-    found: &mut Places<N>,
+    found: &mut PlacesBuilder<N>,
 ) -> Result<(), NoMemory>
-    ensures { OnOk result (found.new ≡ spec.walk_of N given.now.first (C.place given.now.cases.now) N.signal eq.now w.now found.old) }
+    ensures { OnOk result (built found.new ≡ spec.walk_of N given.now.first (C.place given.now.cases.now) N.signal eq.now w.now (built found.old)) }
 {
     let alloc = given.alloc;
     match eq {
@@ -226,10 +229,10 @@ fn walk_arms<N: NoteCopy + SignalNote, C: CasePlaces>(
     m: u32,
     w: &Where,
     given: &Given<C>,
-    found: &mut Places<N>,
+    found: &mut PlacesBuilder<N>,
 ) -> Result<(), NoMemory>
     requires { length all.now < 2 ^ 32 }
-    ensures { OnOk result (found.new ≡ spec.arms_from N m 0 (spec.arm_walks N (map (spec.arm_of N given.now.first (C.place given.now.cases.now) N.signal) all.now)) w.now found.old) }
+    ensures { OnOk result (built found.new ≡ spec.arms_from N m 0 (spec.arm_walks N (map (spec.arm_of N given.now.first (C.place given.now.cases.now) N.signal) all.now)) w.now (built found.old)) }
 {
     for (j, arm) in all.iter().enumerate() {
         walk_handler(&arm.handler, m, j as u32, w, given, found)?;
@@ -243,10 +246,10 @@ fn walk_tests<N: NoteCopy + SignalNote, C: CasePlaces>(
     m: u32,
     w: &Where,
     given: &Given<C>,
-    found: &mut Places<N>,
+    found: &mut PlacesBuilder<N>,
 ) -> Result<(), NoMemory>
     requires { length all.now < 2 ^ 32 }
-    ensures { OnOk result (found.new ≡ spec.arms_from N m 0 (spec.test_walks N (map (spec.test_of N given.now.first (C.place given.now.cases.now) N.signal) all.now)) w.now found.old) }
+    ensures { OnOk result (built found.new ≡ spec.arms_from N m 0 (spec.test_walks N (map (spec.test_of N given.now.first (C.place given.now.cases.now) N.signal) all.now)) w.now (built found.old)) }
 {
     for (j, test) in all.iter().enumerate() {
         walk_test(test, m, j as u32, w, given, found)?;
@@ -261,9 +264,9 @@ fn walk_test<N: NoteCopy + SignalNote, C: CasePlaces>(
     j: u32,
     w: &Where,
     given: &Given<C>,
-    found: &mut Places<N>,
+    found: &mut PlacesBuilder<N>,
 ) -> Result<(), NoMemory>
-    ensures { OnOk result (found.new ≡ (spec.test_of N given.now.first (C.place given.now.cases.now) N.signal test.now).walk m j w.now found.old) }
+    ensures { OnOk result (built found.new ≡ (spec.test_of N given.now.first (C.place given.now.cases.now) N.signal test.now).walk m j w.now (built found.old)) }
 {
     let inside = w.in_let(m, j, given.alloc)?;
     bind_pattern(test.signal.0, &test.pat, &inside, found, given.alloc)?;
@@ -277,9 +280,9 @@ fn walk_other<N: NoteCopy + SignalNote, C: CasePlaces>(
     j: u32,
     w: &Where,
     given: &Given<C>,
-    found: &mut Places<N>,
+    found: &mut PlacesBuilder<N>,
 ) -> Result<(), NoMemory>
-    ensures { OnOk result (found.new ≡ spec.arms_from N m j (spec.option_list (option_map (spec.handler_of N given.now.first (C.place given.now.cases.now) N.signal) other.now)) w.now found.old) }
+    ensures { OnOk result (built found.new ≡ spec.arms_from N m j (spec.option_list (option_map (spec.handler_of N given.now.first (C.place given.now.cases.now) N.signal) other.now)) w.now (built found.old)) }
 {
     match other {
         None => Ok(()),
@@ -294,9 +297,9 @@ fn walk_handler<N: NoteCopy + SignalNote, C: CasePlaces>(
     j: u32,
     w: &Where,
     given: &Given<C>,
-    found: &mut Places<N>,
+    found: &mut PlacesBuilder<N>,
 ) -> Result<(), NoMemory>
-    ensures { OnOk result (found.new ≡ spec.handler_of N given.now.first (C.place given.now.cases.now) N.signal handler.now m j w.now found.old) }
+    ensures { OnOk result (built found.new ≡ spec.handler_of N given.now.first (C.place given.now.cases.now) N.signal handler.now m j w.now (built found.old)) }
 {
     let local = w.in_let(m, j, given.alloc)?;
     let shared = w.in_do(m, j, given.alloc)?;
@@ -310,11 +313,11 @@ fn walk_states<N: NoteCopy + SignalNote, C: CasePlaces>(
     m: u32,
     w: &Where,
     given: &Given<C>,
-    found: &mut Places<N>,
+    found: &mut PlacesBuilder<N>,
 ) -> Result<(), NoMemory>
     requires few { length all.now < 2 ^ 32 }
     requires room { m + 1 < 2 ^ 32 }
-    ensures { OnOk result (found.new ≡ spec.arms_from N m 0 (spec.state_walks N (map (spec.state_of N given.now.first (C.place given.now.cases.now) N.signal) all.now)) w.now found.old) }
+    ensures { OnOk result (built found.new ≡ spec.arms_from N m 0 (spec.state_walks N (map (spec.state_of N given.now.first (C.place given.now.cases.now) N.signal) all.now)) w.now (built found.old)) }
 {
     for (j, state) in all.iter().enumerate() {
         walk_state(state, m, j as u32, w, given, found)?;
@@ -329,10 +332,10 @@ fn walk_state<N: NoteCopy + SignalNote, C: CasePlaces>(
     j: u32,
     w: &Where,
     given: &Given<C>,
-    found: &mut Places<N>,
+    found: &mut PlacesBuilder<N>,
 ) -> Result<(), NoMemory>
     requires { m + 1 < 2 ^ 32 }
-    ensures { OnOk result (found.new ≡ (spec.state_of N given.now.first (C.place given.now.cases.now) N.signal state.now).walk m j w.now found.old) }
+    ensures { OnOk result (built found.new ≡ (spec.state_of N given.now.first (C.place given.now.cases.now) N.signal state.now).walk m j w.now (built found.old)) }
 {
     walk_handler(&state.handler, m, j, w, given, found)?;
     walk_guards(state.strong.as_slice(), m + 1, j, w, given, found)?;
@@ -346,9 +349,9 @@ fn walk_guards<N: NoteCopy + SignalNote, C: CasePlaces>(
     j: u32,
     w: &Where,
     given: &Given<C>,
-    found: &mut Places<N>,
+    found: &mut PlacesBuilder<N>,
 ) -> Result<(), NoMemory>
-    ensures { OnOk result (found.new ≡ spec.walk_guards N (map (spec.guard_of N given.now.first (C.place given.now.cases.now) N.signal) all.now) m j w.now found.old) }
+    ensures { OnOk result (built found.new ≡ spec.walk_guards N (map (spec.guard_of N given.now.first (C.place given.now.cases.now) N.signal) all.now) m j w.now (built found.old)) }
 {
     for guard in all {
         walk_guard(guard, m, j, w, given, found)?;
@@ -363,9 +366,9 @@ fn walk_guard<N: NoteCopy + SignalNote, C: CasePlaces>(
     j: u32,
     w: &Where,
     given: &Given<C>,
-    found: &mut Places<N>,
+    found: &mut PlacesBuilder<N>,
 ) -> Result<(), NoMemory>
-    ensures { OnOk result (found.new ≡ (spec.guard_of N given.now.first (C.place given.now.cases.now) N.signal guard.now).walk m j w.now found.old) }
+    ensures { OnOk result (built found.new ≡ (spec.guard_of N given.now.first (C.place given.now.cases.now) N.signal guard.now).walk m j w.now (built found.old)) }
 {
     let inside = w.in_let(m, j, given.alloc)?;
     walk_all(guard.eqs.as_slice(), &inside, given, found)?;
@@ -389,16 +392,9 @@ pub fn find<N: NoteCopy + SignalNote, C: CasePlaces>(
         cases,
         alloc,
     };
-    let mut found = Places {
-        vars: List::new(alloc),
-        sites: List::new(alloc),
-        starts: List::new(alloc),
-        names: List::new(alloc),
-        resets: List::new(alloc),
-        exprs: List::new(alloc),
-    };
+    let mut found = PlacesBuilder::new(alloc);
     walk_all(body.eqs.as_slice(), &at_top(alloc), &given, &mut found)?;
     reading(&body.result, &List::new(alloc), &mut found, alloc)?;
-    next_number(first, found.names.len())?;
-    Ok(found)
+    next_number(first, found.name_count())?;
+    Ok(found.finish())
 }
