@@ -1,0 +1,4 @@
+pub mod Equations
+pub mod Found
+pub mod Layers
+pub mod Turns
