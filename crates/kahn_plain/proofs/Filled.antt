@@ -1,12 +1,11 @@
 -- Rows written one kind after the other, and turns after one that changes nothing.
-use Rattle.std.specs.Prelude.{◌≡◌, refl, ℕ, zero, suc, ◌+◌, ◌*◌, ◌<◌, ◌≤◌, ◌-◌, List, [], ◌∷◌, ◌++◌, length, Option, false}
+use Rattle.std.specs.Prelude.{◌≡◌, refl, ℕ, zero, suc, ◌+◌, ◌≤◌, ◌-◌, List, [], ◌∷◌, ◌++◌, length, false}
 use Rattle.std.proofs.Common.{ap, sym, ◌∙◌, arith}
 use Rattle.kahn_model.specs.declared.cell.Key.{Key}
 use Rattle.kahn_model.specs.Table.{row_keys, written, written_row}
 use Rattle.kahn_model.specs.Table
 use Rattle.kahn_model.specs.Turn.{Table}
 use Rattle.kahn_exprs.specs.declared.body.Body.{Body}
-use Rattle.kahn_exprs.specs.Body as spec
 use Rattle.kahn_plain.specs.Turns as own
 
 pub written_append : (ks ls : List Key) (n : ℕ) (T : Table) → written (ks ++ ls) n T ≡ written ks n T ++ written ls n T

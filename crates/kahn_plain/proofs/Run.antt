@@ -37,7 +37,7 @@ module _ (cases : ℕ → Option ℕ) (defs : List Definition) (n : ℕ) where
     active = λ i p. cell_is n i (λ j. Some true) p;
     again = λ i p. cell_is n i (λ j. Some false) p;
     clocks = λ w i p. cell_is n i (λ j. Some true) p;
-    args = streams_alike n args
+    args = streams_alike n args;
   }
 
   pub network_is : MeaningByLines → (k : ℕ) (args : List (List (Option Cell))) (c : Context) → c ≡ own.run_context n args

@@ -1,5 +1,5 @@
 -- Where a body is alarmed.
-use Rattle.std.specs.Prelude.{Bool, List, Option, Some}
+use Rattle.std.specs.Prelude.{Bool, List, Some}
 use Rattle.ls_ast.specs.declared.tree.Expr.{Expr}
 use Rattle.ls_sig.specs.Places.{Place}
 use Rattle.ls_sig.specs.declared.binder.Note.{Note}

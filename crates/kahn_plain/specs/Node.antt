@@ -18,5 +18,5 @@ run_context n args = record {
   active = written_row n 0 (λ i. Some true);
   again = written_row n 0 (λ i. Some false);
   clocks = clocks.All (written_row n 0 (λ i. Some true));
-  args = map {A = List (Option Cell)} {B = Argument} Stream args
+  args = map {A = List (Option Cell)} {B = Argument} Stream args;
 }

@@ -535,4 +535,3 @@ pub fn name_row<C: Calls>(
         }
     }
 }
-

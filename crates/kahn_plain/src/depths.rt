@@ -59,7 +59,11 @@ impl<F: Fn(u32, Context) -> Result<List<Option<Cell>>, NoMemory>> Alarms for Lev
 }
 
 /// The row of the result of a body: by its table.
-fn result_row<C: Calls>(body: &Body, call: &C, alloc: Global) -> Result<List<Option<Cell>>, NoMemory>
+fn result_row<C: Calls>(
+    body: &Body,
+    call: &C,
+    alloc: Global,
+) -> Result<List<Option<Cell>>, NoMemory>
     requires can { Serves (C.can call.now) body.now }
     requires numbers { own.AreNumbered body.now.def.now }
     ensures { IfOk result (λ r. r ≡ rows.written_row body.now.lines 0 (own.result body.now)) }

@@ -17,4 +17,3 @@ pub use turns::{are_numbered, is_numbered, table};
 
 #[cfg(test)]
 mod tests;
-

@@ -60,11 +60,7 @@ fn streams(args: &[List<Option<Cell>>], alloc: Global) -> Result<List<Argument>,
 }
 
 /// What is around a node: it is always active, never restarts, and all its clock variables are on.
-fn run_context(
-    lines: u32,
-    args: &[List<Option<Cell>>],
-    alloc: Global,
-) -> Result<Context, NoMemory>
+fn run_context(lines: u32, args: &[List<Option<Cell>>], alloc: Global) -> Result<Context, NoMemory>
     ensures { IfOk result (λ r. r ≡ own.run_context lines args.now) }
 {
     Ok(Context {

@@ -176,7 +176,11 @@ fn call(
 fn late(alloc: Global) -> Result<Definition, NoMemory> {
     let zero = expr(base(Binder::Nothing), Form::Leaf(Leaf::Int(0)), alloc)?;
     let x = param(0, 9, alloc)?;
-    bare(&[9], expr(base(Binder::Nothing), Form::Fby(zero, x), alloc)?, alloc)
+    bare(
+        &[9],
+        expr(base(Binder::Nothing), Form::Fby(zero, x), alloc)?,
+        alloc,
+    )
 }
 
 /// `late (late x)`
@@ -232,7 +236,11 @@ fn ratio(alloc: Global) -> Result<Definition, NoMemory> {
     let mut args = List::new(alloc);
     args.push(param(0, 2, alloc)?)?;
     args.push(param(1, 3, alloc)?)?;
-    bare(&[2, 3], expr(base(Binder::Nothing), Form::Op(Op::Div, args), alloc)?, alloc)
+    bare(
+        &[2, 3],
+        expr(base(Binder::Nothing), Form::Op(Op::Div, args), alloc)?,
+        alloc,
+    )
 }
 
 /// `ratio x y`
@@ -308,7 +316,9 @@ fn a_running_sum(rt: HostRuntime) -> Result<(), Fail> {
     args.push(ints(&[1, 2, 3, -4], alloc)?)?;
     let answer = run(defs.as_slice(), 4, 0, args, alloc)?;
     assert!(rt; matches!(&answer, Some(a) if says(a.row.as_slice(), &[1, 3, 6, 2])));
-    assert!(rt; matches!(&answer, Some(a) if tells(a.alarms.as_slice(), &[false, false, false, false])));
+    assert!(rt;
+        matches!(&answer, Some(a) if tells(a.alarms.as_slice(), &[false, false, false, false]))
+    );
     Ok(())
 }
 

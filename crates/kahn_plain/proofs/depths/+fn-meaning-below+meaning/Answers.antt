@@ -1,7 +1,6 @@
 use Rattle.std.specs.Prelude.{◌-◌}
-use Rattle.std.proofs.Common.{◌∙◌, ap, rules, of_calls}
+use Rattle.std.proofs.Common.{rules, of_calls}
 use Rattle.kahn_model.specs.Program.{case_place}
-use Rattle.kahn_model.specs.Search.{nth}
 use Rattle.kahn_exprs.specs.Context.{around_of}
 use Rattle.kahn_plain.proofs.CallDepth.{none_means, same_means, some_means}
 use Rattle.kahn_plain.proofs.Standing.{ok_same}
