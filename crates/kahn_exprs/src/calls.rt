@@ -7,11 +7,11 @@ ghost use Rattle.kahn_exprs.specs.Context as around;
 ghost use Rattle.kahn_model.specs.Table as rows;
 
 use crate::body::Body;
-use crate::context::{Argument, Clocks, Context, add_arguments, add_given, base, copy_clocks, give};
+use crate::context::{Argument, Clocks, Context, add_arguments, add_given, base, give};
 use crate::rows::{absent_row, active_row, on_row, restart_row};
 use kahn_cells::clocks::is_function;
 use kahn_model::Cell;
-use ls_base::{List, NoMemory};
+use ls_base::{List, NoMemory, NoteCopy};
 use ls_sig::{Frame, Note};
 use std::alloc::Global;
 
@@ -51,7 +51,7 @@ fn target(
     add_arguments(args, &mut all, alloc)?;
     match base(f) {
         Argument::Function(k, known) => {
-            let clocks = Clocks::Each(copy_clocks(known.as_slice(), alloc)?);
+            let clocks = Clocks::Each(known.copy(alloc)?);
             Ok(Some((
                 *k,
                 Context {

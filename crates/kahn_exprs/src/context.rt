@@ -7,7 +7,7 @@ ghost use Rattle.kahn_model.specs.Functions.{give_args};
 
 use kahn_cells::cells::copy_known;
 use kahn_model::Cell;
-use ls_base::{Boxed, List, NoMemory};
+use ls_base::{Boxed, List, NoMemory, NoteCopy};
 use std::alloc::Global;
 
 /// What stands for a parameter.
@@ -53,31 +53,6 @@ pub fn copy_cells(cells: &[Option<Cell>], alloc: Global) -> Result<List<Option<C
     Ok(done)
 }
 
-/// A copy of a row of truths.
-pub fn copy_truths(row: &[Option<bool>], alloc: Global) -> Result<List<Option<bool>>, NoMemory>
-    ensures { IfOk result (λ r. r ≡ row.now) }
-{
-    let mut done = List::new(alloc);
-    for t in row {
-        done.push(*t)?;
-    }
-    Ok(done)
-}
-
-/// A copy of the rows of clock variables.
-pub fn copy_clocks(
-    rows: &[(u32, List<Option<bool>>)],
-    alloc: Global,
-) -> Result<List<(u32, List<Option<bool>>)>, NoMemory>
-    ensures { IfOk result (λ r. r ≡ rows.now) }
-{
-    let mut done = List::new(alloc);
-    for row in rows {
-        done.push((row.0, copy_truths(row.1.as_slice(), alloc)?))?;
-    }
-    Ok(done)
-}
-
 /// A copy of what stands for a parameter.
 pub fn copy_argument(arg: &Argument, alloc: Global) -> Result<Argument, NoMemory>
     ensures { IfOk result (λ r. r ≡ arg.now) }
@@ -85,7 +60,7 @@ pub fn copy_argument(arg: &Argument, alloc: Global) -> Result<Argument, NoMemory
     match arg {
         Argument::Stream(cells) => Ok(Argument::Stream(copy_cells(cells.as_slice(), alloc)?)),
         Argument::Function(k, rows) => {
-            Ok(Argument::Function(*k, copy_clocks(rows.as_slice(), alloc)?))
+            Ok(Argument::Function(*k, rows.copy(alloc)?))
         }
         Argument::Pointwise(k) => Ok(Argument::Pointwise(*k)),
         Argument::Given(f, x) => Ok(Argument::Given(

@@ -16,7 +16,7 @@ mod streams;
 pub use alarms::{Alarms, alarm_row};
 pub use body::{Body, active, again, cell_in, on, param_cell, read, truth_in};
 pub use calls::Calls;
-pub use context::{Argument, Clocks, Context};
+pub use context::{Argument, Clocks, Context, copy_cells};
 pub use expressions::row;
 pub use memory::{Pace, last, mode_here, previous, variable_here};
 

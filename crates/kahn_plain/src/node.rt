@@ -11,8 +11,8 @@ ghost use Rattle.kahn_plain.specs.Turns as turns;
 
 use crate::alarmed::alarms;
 use crate::depths::meaning;
-use kahn_cells::cells::{copy_known, say_case};
-use kahn_exprs::{Argument, Clocks, Context, cell_in};
+use kahn_cells::cells::say_case;
+use kahn_exprs::{Argument, Clocks, Context, cell_in, copy_cells};
 use kahn_model::{Cell, Definition, laws};
 use ls_ast::DefOf;
 use ls_base::{List, NoMemory};
@@ -38,23 +38,13 @@ fn truth_row(lines: u32, truth: bool, alloc: Global) -> Result<List<Option<bool>
     Ok(done)
 }
 
-fn copy_row(cells: &[Option<Cell>], alloc: Global) -> Result<List<Option<Cell>>, NoMemory>
-    ensures { IfOk result (λ r. r ≡ cells.now) }
-{
-    let mut done = List::new(alloc);
-    for c in cells {
-        done.push(copy_known(c, alloc)?)?;
-    }
-    Ok(done)
-}
-
 /// Rows as what stands for parameters.
 fn streams(args: &[List<Option<Cell>>], alloc: Global) -> Result<List<Argument>, NoMemory>
     ensures { IfOk result (λ r. r ≡ map Stream args.now) }
 {
     let mut done = List::new(alloc);
     for cells in args {
-        done.push(Argument::Stream(copy_row(cells.as_slice(), alloc)?))?;
+        done.push(Argument::Stream(copy_cells(cells.as_slice(), alloc)?))?;
     }
     Ok(done)
 }

@@ -7,13 +7,13 @@ use Rattle.kahn_exprs.specs.Context as around
 use Rattle.kahn_exprs.proofs.Targets.{all_given, arg_function, arg_given, arg_pointwise, arg_stream, from_parts, never_given}
 use Rattle.kahn_exprs.proofs.calls.target.Goals as goal
 
-pub returns-in_ok-copy_clocks-in-Function : goal.returns-in_ok-copy_clocks-in-Function
-returns-in_ok-copy_clocks-in-Function c =
+pub returns-in_ok-copy-in-Function : goal.returns-in_ok-copy-in-Function
+returns-in_ok-copy-in-Function c =
     let done = c.add_arguments.new.done in
     let all = all_given (around.arg_of c.args.f.now) c.args.args.now c.new-all.result c.add_given.new.done done c.new-all.ensures c.in_ok-add_given.ensures c.in_ok-add_arguments.ensures in
     let base = sym (arg_function c.in-Function.k c.in-Function.known) ∙ ap around.arg_of (sym c.in-Function.is) ∙ c.base.ensures in
     ap (λ z. Some (own.place_of (c.in-Function.k, record { active = c.args.active; again = c.args.again; clocks = clocks.Each z; args = done })))
-    (c.in_ok-copy_clocks-in-Function.ensures ∙ c.as_slice.ensures.value)
+    c.in_ok-copy-in-Function.ensures
     ∙ from_parts (cell_in c.args.here) (cell_in c.args.active) (cell_in c.args.again) (around.arg_of c.args.f.now) _ (around.args_of c.args.args.now) (around.args_of done) base all
 
 pub returns-in-Pointwise : goal.returns-in-Pointwise
