@@ -59,9 +59,7 @@ pub fn copy_argument(arg: &Argument, alloc: Global) -> Result<Argument, NoMemory
 {
     match arg {
         Argument::Stream(cells) => Ok(Argument::Stream(copy_cells(cells.as_slice(), alloc)?)),
-        Argument::Function(k, rows) => {
-            Ok(Argument::Function(*k, rows.copy(alloc)?))
-        }
+        Argument::Function(k, rows) => { Ok(Argument::Function(*k, rows.copy(alloc)?)) }
         Argument::Pointwise(k) => Ok(Argument::Pointwise(*k)),
         Argument::Given(f, x) => Ok(Argument::Given(
             Boxed::new(alloc, copy_argument(f.get(), alloc)?)?,

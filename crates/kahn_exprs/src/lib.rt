@@ -19,4 +19,3 @@ pub use calls::Calls;
 pub use context::{Argument, Clocks, Context, copy_cells};
 pub use expressions::row;
 pub use memory::{Pace, last, mode_here, previous, variable_here};
-
