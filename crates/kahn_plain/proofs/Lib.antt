@@ -3,3 +3,4 @@ pub mod Rights
 pub mod Filled
 pub mod CallDepth
 pub mod Run
+pub mod Defined

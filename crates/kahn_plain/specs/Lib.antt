@@ -3,3 +3,4 @@ pub mod Turns
 pub mod Calls
 pub mod Alarms
 pub mod Node
+pub mod Program

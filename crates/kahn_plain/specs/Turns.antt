@@ -1,5 +1,5 @@
 -- The rows of a table by their kinds, and its turns.
-use Rattle.std.specs.Prelude.{◌≡◌, ℕ, ◌+◌, ◌<◌, ◌^◌, Bool, true, false, List, map, Some, None, length}
+use Rattle.std.specs.Prelude.{◌≡◌, ℕ, ◌+◌, ◌<◌, ◌^◌, Bool, true, false, List, [], ◌∷◌, map, Some, None, length}
 use Rattle.kahn_model.specs.declared.cell.Cell.{Cell}
 use Rattle.kahn_model.specs.declared.cell.Key.{Key}
 use Rattle.kahn_model.specs.declared.cell.Key.TheVariants as key
@@ -45,6 +45,11 @@ AreNumbered d = length d.params + length d.places.names < 2 ^ 32
 
 abbrev pub AllNumbered : List Definition → Type 0
 AllNumbered defs = (k : ℕ) (d : Definition) → nth defs k ≡ Some d → AreNumbered d
+
+-- the same, one after the other
+abbrev pub EachNumbered : List Definition → Type 0
+EachNumbered [] = Unit {0}
+EachNumbered (d ∷ defs) = AreNumbered d × EachNumbered defs
 
 -- the turns of a body, whatever table stands in it
 module _ (b : Body) where

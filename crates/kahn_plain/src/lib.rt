@@ -7,12 +7,14 @@ mod blocks;
 mod depths;
 mod equations;
 mod node;
+mod program;
 mod same;
 mod turns;
 
 pub use alarmed::alarms;
 pub use depths::meaning;
 pub use node::{Answer, network};
+pub use program::{definitions, program_network};
 pub use turns::{are_numbered, is_numbered, table};
 
 #[cfg(test)]
