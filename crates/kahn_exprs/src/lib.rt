@@ -20,3 +20,5 @@ pub use context::{Argument, Clocks, Context};
 pub use expressions::row;
 pub use memory::{Pace, last, mode_here, previous, variable_here};
 
+#[cfg(test)]
+mod tests;
