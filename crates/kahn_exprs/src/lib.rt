@@ -19,3 +19,6 @@ pub use calls::Calls;
 pub use context::{Argument, Clocks, Context, copy_cells};
 pub use expressions::row;
 pub use memory::{Pace, last, mode_here, previous, variable_here};
+
+#[cfg(test)]
+mod tests;
