@@ -1,8 +1,6 @@
 //! A stand-in for the front end: from a parsed definition to one whose notes have the binders, the
 //! clocks and what of the types the stream network asks.
 
-ghost use Rattle.std.specs.Prelude.{◌==◌, Some, None, if◌then◌else◌};
-
 use crate::scope::{At, Hints, Scope, parameter_count, sampled};
 use kahn_model::Definition;
 use ls_ast::{
@@ -216,12 +214,7 @@ fn equation_clock(pat: &Pat, at: &At, scope: &Scope) -> Result<ClockTerm, NoMemo
     }
 }
 
-fn plain(
-    pat: &Pat,
-    e: &Expr<Plain>,
-    at: &At,
-    scope: &Scope,
-) -> Result<Equation<Note>, NoMemory> {
+fn plain(pat: &Pat, e: &Expr<Plain>, at: &At, scope: &Scope) -> Result<Equation<Note>, NoMemory> {
     let ck = equation_clock(pat, at, scope)?;
     let right = expression(e, &ck, at.arms.as_slice(), scope)?;
     Ok(Equation::Plain(pat.copy(scope.alloc)?, right))

@@ -15,7 +15,10 @@ fn a_running_sum(rt: HostRuntime) -> Result<(), Fail> {
 #[test]
 fn a_merge(rt: HostRuntime) -> Result<(), Fail> {
     let alloc = rt.alloc();
-    let keep = node_of("keep", "let node keep x c = merge c (x when c) (0 whenot c)");
+    let keep = node_of(
+        "keep",
+        "let node keep x c = merge c (x when c) (0 whenot c)",
+    );
     assert_eq!(rt; run(&keep, &["5 6", "true false"], alloc)?.as_str(), "5 0");
     Ok(())
 }
@@ -42,7 +45,10 @@ let node r c s = o where rec
 fn a_match_in_a_reset(rt: HostRuntime) -> Result<(), Fail> {
     let alloc = rt.alloc();
     let args = ["false false true false", "true true false true"];
-    assert_eq!(rt; run(&node_of("r", RESET), &args, alloc)?.as_str(), "0 1 -1 0");
+    assert_eq!(rt;
+        run(&node_of("r", RESET), &args, alloc)?.as_str(),
+        "0 1 -1 0"
+    );
     Ok(())
 }
 
@@ -57,7 +63,10 @@ let node updown () = o where rec last o = 0 and automaton
 fn an_automaton_with_weak_guards(rt: HostRuntime) -> Result<(), Fail> {
     let alloc = rt.alloc();
     let args = ["() () () () () ()"];
-    assert_eq!(rt; run(&node_of("updown", UP_AND_DOWN), &args, alloc)?.as_str(), "1 2 1 0 1 2");
+    assert_eq!(rt;
+        run(&node_of("updown", UP_AND_DOWN), &args, alloc)?.as_str(),
+        "1 2 1 0 1 2"
+    );
     Ok(())
 }
 
@@ -72,7 +81,10 @@ let node sw c = o where rec automaton
 fn an_automaton_with_strong_guards(rt: HostRuntime) -> Result<(), Fail> {
     let alloc = rt.alloc();
     let args = ["true true false"];
-    assert_eq!(rt; run(&node_of("sw", SWITCH), &args, alloc)?.as_str(), "1 0 0");
+    assert_eq!(rt;
+        run(&node_of("sw", SWITCH), &args, alloc)?.as_str(),
+        "1 0 0"
+    );
     Ok(())
 }
 
@@ -94,7 +106,10 @@ let node t c = o where rec automaton
 fn states_entered_anew(rt: HostRuntime) -> Result<(), Fail> {
     let alloc = rt.alloc();
     let args = ["false true false true false"];
-    assert_eq!(rt; run(&node_of("t", BY_RESET), &args, alloc)?.as_str(), "1 2 10 11 1");
+    assert_eq!(rt;
+        run(&node_of("t", BY_RESET), &args, alloc)?.as_str(),
+        "1 2 10 11 1"
+    );
     Ok(())
 }
 
@@ -102,7 +117,10 @@ fn states_entered_anew(rt: HostRuntime) -> Result<(), Fail> {
 fn states_entered_with_their_memories(rt: HostRuntime) -> Result<(), Fail> {
     let alloc = rt.alloc();
     let args = ["false true false true false"];
-    assert_eq!(rt; run(&node_of("t", BY_HISTORY), &args, alloc)?.as_str(), "1 2 10 11 3");
+    assert_eq!(rt;
+        run(&node_of("t", BY_HISTORY), &args, alloc)?.as_str(),
+        "1 2 10 11 3"
+    );
     Ok(())
 }
 
@@ -131,7 +149,10 @@ fn a_pointwise_function_as_an_argument(rt: HostRuntime) -> Result<(), Fail> {
 #[test]
 fn each_call_has_its_own_memory(rt: HostRuntime) -> Result<(), Fail> {
     let alloc = rt.alloc();
-    assert_eq!(rt; run(&iterated("two"), &["3 4"], alloc)?.as_str(), "(3,4) (7,9)");
+    assert_eq!(rt;
+        run(&iterated("two"), &["3 4"], alloc)?.as_str(),
+        "(3,4) (7,9)"
+    );
     Ok(())
 }
 
@@ -140,7 +161,10 @@ fn a_division_on_a_slow_clock(rt: HostRuntime) -> Result<(), Fail> {
     let alloc = rt.alloc();
     let slow = Program {
         sampled: Some(("k", "c", 1)),
-        ..node_of("m", "let node m x c = merge c (1 / k) (x whenot c) where rec k = 0 fby (k + 1)")
+        ..node_of(
+            "m",
+            "let node m x c = merge c (1 / k) (x whenot c) where rec k = 0 fby (k + 1)",
+        )
     };
     let args = ["7 8 9", "false false true"];
     assert_eq!(rt; run(&slow, &args, alloc)?.as_str(), "7 8 !");
@@ -167,7 +191,10 @@ let node e () = s where
 #[test]
 fn a_signal_that_is_emitted(rt: HostRuntime) -> Result<(), Fail> {
     let alloc = rt.alloc();
-    assert_eq!(rt; run(&node_of("e", EMITTER), &["() () ()"], alloc)?.as_str(), ". 1 .");
+    assert_eq!(rt;
+        run(&node_of("e", EMITTER), &["() () ()"], alloc)?.as_str(),
+        ". 1 ."
+    );
     Ok(())
 }
 
@@ -195,6 +222,9 @@ const CHRONOMETER_ROW: &str = "(0,false) (1,true) (2,true) (2,true) (2,true) (5,
 fn a_chronometer(rt: HostRuntime) -> Result<(), Fail> {
     let alloc = rt.alloc();
     let args = [". 's' . 'l' . 'l' 's' . 'l' 'x'", "1 1 1 1 1 1 1 1 1 1"];
-    assert_eq!(rt; run(&node_of("chrono", CHRONOMETER), &args, alloc)?.as_str(), CHRONOMETER_ROW);
+    assert_eq!(rt;
+        run(&node_of("chrono", CHRONOMETER), &args, alloc)?.as_str(),
+        CHRONOMETER_ROW
+    );
     Ok(())
 }

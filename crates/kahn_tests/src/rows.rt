@@ -49,11 +49,13 @@ fn write_value_leaf(leaf: Leaf, out: &mut String) -> Result<(), NoMemory> {
 
 #[cycle(values)]
 fn write_parts(all: &[Value], out: &mut String) -> Result<(), NoMemory> {
-    let mut between = "";
+    let mut first = true;
     for v in all {
-        write_text(between, out)?;
+        if !first {
+            write_text(",", out)?;
+        }
         write_value(v, out)?;
-        between = ",";
+        first = false;
     }
     Ok(())
 }
@@ -93,11 +95,13 @@ fn write_line(c: &Option<Cell>, alarm: Option<bool>, out: &mut String) -> Result
 /// The words of an answer, with blanks between them.
 pub fn words(answer: &Answer, alloc: Global) -> Result<String, NoMemory> {
     let mut out = String::new(alloc);
-    let mut between = "";
+    let mut first = true;
     for (c, alarm) in answer.row.as_slice().iter().zip(answer.alarms.as_slice()) {
-        write_text(between, &mut out)?;
+        if !first {
+            write_text(" ", &mut out)?;
+        }
         write_line(c, *alarm, &mut out)?;
-        between = " ";
+        first = false;
     }
     Ok(out)
 }

@@ -67,13 +67,15 @@ impl At {
 
 /// Whether these arms begin those.
 fn begin(list: &[(u32, u32)], arms: &[(u32, u32)]) -> bool {
-    match list {
-        [] => true,
-        [a, rest @ ..] => match arms {
-            [] => false,
-            [b, more @ ..] => a.0 == b.0 && a.1 == b.1 && begin(rest, more),
-        },
+    if list.len() > arms.len() {
+        return false;
     }
+    for (a, b) in list.iter().zip(arms) {
+        if a.0 != b.0 || a.1 != b.1 {
+            return false;
+        }
+    }
+    true
 }
 
 /// The number of the innermost variable of a name that is seen in these arms.
@@ -118,7 +120,7 @@ pub fn definition_number(x: Name, defs: &[Def]) -> Option<u32> {
     None
 }
 
-/// The place of `clock` equation of a variable among the clock names of the body.
+/// The place of the `clock` equation of a variable among the clock names of the body.
 fn clock_place(var: u32, clocks: &[Named<Note>]) -> u32 {
     let mut k: u32 = 0;
     for c in clocks {
@@ -148,7 +150,7 @@ impl Scope<'_> {
     /// The number of the clock name of a condition.
     pub fn clock_name(&self, x: Name, arms: &[(u32, u32)]) -> u32 {
         if let Some(var) = variable(x, arms, self.vars) {
-            let first: u32 = parameter_count(self.params);
+            let first = parameter_count(self.params);
             return first.saturating_add(clock_place(var, self.clocks));
         }
         match parameter(x, self.params) {
