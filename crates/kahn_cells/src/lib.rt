@@ -7,7 +7,6 @@ pub mod clocks;
 mod operands;
 pub mod paths;
 pub mod search;
-pub mod values;
-
 #[cfg(test)]
 mod tests;
+pub mod values;

@@ -1,6 +1,6 @@
 use crate::cells::{
-    at, both, copy_cell, copy_known, either, emitted, is_case, is_here, known_values, part, restarts,
-    say_case, say_here, say_restarts, value_in,
+    at, both, copy_cell, copy_known, either, emitted, is_case, is_here, known_values, part,
+    restarts, say_case, say_here, say_restarts, value_in,
 };
 use crate::clocks::{add_clocks, any_mentions, bare, is_function, mentions, names_in, noted};
 use crate::paths::lacks;
@@ -8,9 +8,7 @@ use crate::search::{
     arms, binds, case_place, case_value, chosen_arm, copy_arms, first_site, guards_of, has_name,
     home_of, in_signature, nth, signal_in, start_of, starts_with, state_of,
 };
-use crate::values::{
-    alarm, case_of, copy_value, eval, is_nil, nil, pick, the_leaf, tuple,
-};
+use crate::values::{alarm, case_of, copy_value, eval, is_nil, nil, pick, the_leaf, tuple};
 use kahn_model::{Cell, Definition, Value};
 use ls_ast::{DefOf, Expr, Form, Pat};
 use ls_base::{Boxed, Line, List, Name, NoMemory};
@@ -153,7 +151,11 @@ fn definition(inside: &[u32], alloc: Global) -> Result<Definition, NoMemory> {
     cases.push(Some(1))?;
     cases.push(Some(0))?;
     let mut names = List::new(alloc);
-    names.push(Named::Match(number(1, ClockTerm::Var(0), alloc)?, cases, List::new(alloc)))?;
+    names.push(Named::Match(
+        number(1, ClockTerm::Var(0), alloc)?,
+        cases,
+        List::new(alloc),
+    ))?;
     let places = Places {
         vars: List::new(alloc),
         sites,
@@ -246,7 +248,15 @@ fn cells_that_are_known(rt: HostRuntime) -> Result<(), Fail> {
 fn what_cells_say(rt: HostRuntime) -> Result<(), Fail> {
     assert!(rt; says(Cell::Absent, false, false, false, false));
     assert!(rt; says(Cell::Silent, false, false, false, true));
-    assert!(rt; says(Cell::Present(Value::Leaf(Leaf::Bool(true))), true, false, true, true));
+    assert!(rt;
+        says(
+            Cell::Present(Value::Leaf(Leaf::Bool(true))),
+            true,
+            false,
+            true,
+            true
+        )
+    );
     assert!(rt; says(Cell::Chosen(Some(1), true), true, true, false, true));
     assert!(rt; says(Cell::Chosen(Some(1), false), true, false, false, true));
     assert!(rt; says(Cell::Chosen(None, true), false, false, false, true));
@@ -271,7 +281,11 @@ fn what_clocks_mention(rt: HostRuntime) -> Result<(), Fail> {
     assert!(rt; any_mentions(8, clocks.as_slice()) && any_mentions(7, clocks.as_slice()));
     assert!(rt; matches!(noted(1, clocks.as_slice()), Some(ClockTerm::Var(4))));
     assert!(rt; noted(2, clocks.as_slice()).is_none());
-    let arrow = TypeTerm::Arrow(Kind::Seq, List::new(alloc), Boxed::new(alloc, TypeTerm::Int)?);
+    let arrow = TypeTerm::Arrow(
+        Kind::Seq,
+        List::new(alloc),
+        Boxed::new(alloc, TypeTerm::Int)?,
+    );
     let note = Note {
         bound: Binder::Nothing,
         ty: arrow,
@@ -287,7 +301,9 @@ fn arms_around_places(rt: HostRuntime) -> Result<(), Fail> {
     let inner = arms(place(0, 1, alloc)?.as_slice(), alloc)?;
     assert!(rt; starts_with(inner.as_slice(), &[(0, 0), (1, 1)]));
     let same = copy_arms(inner.as_slice(), alloc)?;
-    assert!(rt; starts_with(same.as_slice(), &[(0, 0)]) && !starts_with(same.as_slice(), &[(0, 1)]));
+    assert!(rt;
+        starts_with(same.as_slice(), &[(0, 0)]) && !starts_with(same.as_slice(), &[(0, 1)])
+    );
     let home = home_of(7, occurrences(alloc)?.as_slice(), alloc)?;
     assert!(rt; home.len() == 1 && starts_with(home.as_slice(), &[(0, 0)]));
     let one = definition(&[1], alloc)?;

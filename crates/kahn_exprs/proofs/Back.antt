@@ -27,4 +27,3 @@ back P A (suc i) p a h =
 pub built : {X Y Z : Type 0} (f : X → Y) (g : Y → Z) (xs : List X) (i : ℕ) (x : X) (done new : List Z) (z : Z)
     → i < length xs → get_or xs i x ≡ x → done ≡ map g (map f (take i xs)) → z ≡ g (f x) → new ≡ done ++ z ∷ [] → new ≡ map g (map f (take (i + 1) xs))
 built f g xs i x done new z below is so_far one more = grind (arith, common_steps)
-

@@ -236,7 +236,16 @@ fn own_alarms<C: Calls, A: Alarms>(
             let restarts = every_row(body, call, place, every, alloc)?;
             let clocks = clocks_noted(args.as_slice(), alloc)?;
             let f = head(body, note, name.0, clocks, alloc)?;
-            called_alarms(body, alarmed, place, note, &f, all.as_slice(), &restarts, alloc)
+            called_alarms(
+                body,
+                alarmed,
+                place,
+                note,
+                &f,
+                all.as_slice(),
+                &restarts,
+                alloc,
+            )
         }
         Form::Leaf(_) => quiet_row(body.lines, alloc),
         Form::Case(_) => quiet_row(body.lines, alloc),
@@ -315,11 +324,27 @@ fn parts_alarms<C: Calls, A: Alarms>(
         Form::Last(_) => Ok(done),
         Form::Asked(_) => Ok(done),
         Form::Op(_, args) => {
-            add_alarms(body, call, alarmed, place, args.as_slice(), &mut done, alloc)?;
+            add_alarms(
+                body,
+                call,
+                alarmed,
+                place,
+                args.as_slice(),
+                &mut done,
+                alloc,
+            )?;
             Ok(done)
         }
         Form::Tuple(args) => {
-            add_alarms(body, call, alarmed, place, args.as_slice(), &mut done, alloc)?;
+            add_alarms(
+                body,
+                call,
+                alarmed,
+                place,
+                args.as_slice(),
+                &mut done,
+                alloc,
+            )?;
             Ok(done)
         }
         Form::Pre(e) => {
@@ -353,7 +378,15 @@ fn parts_alarms<C: Calls, A: Alarms>(
             Ok(done)
         }
         Form::Call { args, every, .. } => {
-            add_alarms(body, call, alarmed, place, args.as_slice(), &mut done, alloc)?;
+            add_alarms(
+                body,
+                call,
+                alarmed,
+                place,
+                args.as_slice(),
+                &mut done,
+                alloc,
+            )?;
             match every {
                 None => Ok(done),
                 Some(e) => {

@@ -185,12 +185,7 @@ pub fn stream_cell(arg: &Argument, i: usize, alloc: Global) -> Result<Option<Cel
     }
 }
 
-fn arg_cell(
-    m: usize,
-    args: &[Argument],
-    i: usize,
-    alloc: Global,
-) -> Result<Option<Cell>, NoMemory>
+fn arg_cell(m: usize, args: &[Argument], i: usize, alloc: Global) -> Result<Option<Cell>, NoMemory>
     ensures { IfOk result (λ r. r ≡ row_of (arg_at m (around.args_of args.now)) i) }
 {
     match args {

@@ -7,7 +7,9 @@ ghost use Rattle.kahn_exprs.specs.Context as around;
 ghost use Rattle.kahn_model.specs.Table as rows;
 
 use crate::body::Body;
-use crate::context::{Argument, Clocks, Context, add_arguments, add_given, base, copy_clocks, give};
+use crate::context::{
+    Argument, Clocks, Context, add_arguments, add_given, base, copy_clocks, give,
+};
 use crate::rows::{absent_row, active_row, on_row, restart_row};
 use kahn_cells::clocks::is_function;
 use kahn_model::Cell;

@@ -188,7 +188,13 @@ fn form_value<C: Calls>(
         }
         Form::Op(op, args) => {
             let all = exprs_rows(body, call, place, args.as_slice(), alloc)?;
-            ruled(body, place, note, &Rule::Operator(*op, all.as_slice()), alloc)
+            ruled(
+                body,
+                place,
+                note,
+                &Rule::Operator(*op, all.as_slice()),
+                alloc,
+            )
         }
         Form::Tuple(args) => {
             let all = exprs_rows(body, call, place, args.as_slice(), alloc)?;
@@ -201,12 +207,24 @@ fn form_value<C: Calls>(
         Form::Fby(a, b) => {
             let x = row(body, call, place, a, alloc)?;
             let y = row(body, call, place, b, alloc)?;
-            ruled(body, place, note, &Rule::Fby(x.as_slice(), y.as_slice()), alloc)
+            ruled(
+                body,
+                place,
+                note,
+                &Rule::Fby(x.as_slice(), y.as_slice()),
+                alloc,
+            )
         }
         Form::Init(a, b) => {
             let x = row(body, call, place, a, alloc)?;
             let y = row(body, call, place, b, alloc)?;
-            ruled(body, place, note, &Rule::Init(x.as_slice(), y.as_slice()), alloc)
+            ruled(
+                body,
+                place,
+                note,
+                &Rule::Init(x.as_slice(), y.as_slice()),
+                alloc,
+            )
         }
         Form::When(e, _, _) => Ok(Argument::Stream(row(body, call, place, e, alloc)?)),
         Form::Merge(x, choices) => {

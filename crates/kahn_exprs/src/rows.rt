@@ -113,11 +113,7 @@ pub fn clocked_row(
 
 /// The row of what stands for a parameter: a function is absent.
 #[tactic(auto, using(crate::proofs::Written::one_more))]
-pub fn stream_row(
-    lines: u32,
-    arg: &Argument,
-    alloc: Global,
-) -> Result<List<Option<Cell>>, NoMemory>
+pub fn stream_row(lines: u32, arg: &Argument, alloc: Global) -> Result<List<Option<Cell>>, NoMemory>
     ensures { IfOk result (λ r. r ≡ rows.written_row lines 0 (row_of (around.arg_of arg.now))) }
 {
     let mut done = List::new(alloc);

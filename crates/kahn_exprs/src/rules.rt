@@ -33,11 +33,7 @@ pub enum Rule<'a> {
     Fby(&'a [Option<Cell>], &'a [Option<Cell>]),
     Init(&'a [Option<Cell>], &'a [Option<Cell>]),
     /// By the row of the condition, and one for each branch.
-    Merge(
-        &'a [Option<Cell>],
-        &'a [(Case, Expr<Note>)],
-        &'a [List<Option<Cell>>],
-    ),
+    Merge(&'a [Option<Cell>], &'a [(Case, Expr<Note>)], &'a [List<Option<Cell>>]),
 }
 
 /// The cells of some rows at an instant.
