@@ -1,7 +1,7 @@
-use crate::{Answer, are_numbered, network};
+use crate::{Answer, are_numbered, network, program_network};
 use kahn_model::{Cell, Definition, Value};
-use ls_ast::{Case, Expr, Form, Pat};
-use ls_base::{Boxed, List, Name, NoMemory, NoteCopy};
+use ls_ast::{BodyOf, Case, DefOf, Equation, Expr, Form, Mark, Pat};
+use ls_base::{Boxed, Line, List, Name, NoMemory, NoteCopy};
 use ls_ops::Op;
 use ls_sig::{Binder, Frame, Note, Places, Right, Site, Variable};
 use ls_terms::{ClockTerm, Kind, TypeTerm};
@@ -373,5 +373,45 @@ fn a_division_by_zero_in_a_call(rt: HostRuntime) -> Result<(), Fail> {
     args.push(ints(&[2, 0, 4], alloc)?)?;
     let answer = run(defs.as_slice(), 3, 1, args, alloc)?;
     assert!(rt; matches!(&answer, Some(a) if tells(a.alarms.as_slice(), &[false, true, false])));
+    Ok(())
+}
+
+/// A file with a node `s where s = 7 / x`, with x as name 2 and s as name 3.
+fn division_file(alloc: Global) -> Result<List<DefOf<Note>>, NoMemory> {
+    let mut operands = List::new(alloc);
+    operands.push(expr(base(Binder::Nothing), Form::Leaf(Leaf::Int(7)), alloc)?)?;
+    operands.push(expr(base(Binder::Param(0)), Form::Var(Name(2)), alloc)?)?;
+    let right = expr(base(Binder::Nothing), Form::Op(Op::Div, operands), alloc)?;
+    let mut eqs = List::new(alloc);
+    eqs.push(Equation::Plain(Pat::Var(Name(3)), right))?;
+    let result = expr(base(Binder::Var(0)), Form::Var(Name(3)), alloc)?;
+    let mut params = List::new(alloc);
+    params.push(Pat::Var(Name(2)))?;
+    let mut marks = List::new(alloc);
+    marks.push(Mark::Data)?;
+    let mut notes = List::new(alloc);
+    notes.push(base(Binder::Param(0)))?;
+    let mut file = List::new(alloc);
+    file.push(DefOf::Let {
+        line: Line(1),
+        node: true,
+        name: Name(4),
+        params,
+        marks,
+        notes,
+        body: BodyOf { result, eqs },
+    })?;
+    Ok(file)
+}
+
+#[test]
+fn a_node_of_a_file(rt: HostRuntime) -> Result<(), Fail> {
+    let alloc = rt.alloc();
+    let file = division_file(alloc)?;
+    let mut args = List::new(alloc);
+    args.push(ints(&[2, 0, -7], alloc)?)?;
+    let answer = program_network(file.as_slice(), 3, 0, args, alloc)?;
+    assert!(rt; says(answer.row.as_slice(), &[3, 0, -1]));
+    assert!(rt; tells(answer.alarms.as_slice(), &[false, true, false]));
     Ok(())
 }
