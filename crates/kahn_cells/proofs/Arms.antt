@@ -1,25 +1,20 @@
 -- Arms, one by one.
-use Rattle.std.specs.Prelude.{◌≡◌, ◌≢◌, refl, ℕ, zero, suc, ◌+◌, ◌-◌, ◌||◌, Bool, false, List, [], ◌∷◌, length, if◌then◌else◌}
-use Rattle.std.proofs.Common.{ap, sym, ◌∙◌, subst, arith}
-use Rattle.ls_sig.specs.Places.{InnerArm}
-use Rattle.kahn_model.specs.declared.definition.Definition.{Definition}
-use Rattle.kahn_model.specs.Search.{count_up, is_empty, lacks_within, outer_block, paths_inside}
+use Rattle.std.specs.Prelude.{◌≡◌, ◌≢◌, refl, ℕ, zero, suc, ◌+◌, ◌-◌, ◌<◌, ◌||◌, Bool, false, List, [], ◌∷◌, length, if◌then◌else◌}
+use Rattle.std.proofs.Common.{ap, sym, ◌∙◌, arith}
+use Rattle.ls_places.specs.Places.{InnerArm}
+use Rattle.ls_places.specs.Search.{count_up, is_empty, lacks_within, outer_block, paths_inside}
+use Rattle.ls_places.specs.declared.definition.Definition.{Definition}
 use Rattle.kahn_cells.specs.Paths.{any_arm_lacks, any_empty, count_arms}
+use Rattle.kahn_cells.proofs.Clocking.{counted}
 
 one_less : (i : ℕ) → suc i - 1 ≡ i
 one_less i = omega arith
 
-one_more : (i : ℕ) → suc i ≡ i + 1
-one_more i = omega arith
-
-pub next_arm : (d : Definition) (depth m : ℕ) (paths inside : List (List InnerArm)) (left j : ℕ) (b : Bool) → left ≢ 0 → b ≡ lacks_within d depth inside → b ≡ false
-    → inside ≡ paths_inside (m, j) paths
-    → any_arm_lacks d depth m paths (count_up (left - 1) (j + 1)) ≡ any_arm_lacks d depth m paths (count_up left j)
-next_arm d depth m paths inside zero j b p is none e = absurd (p refl)
-next_arm d depth m paths inside (suc left) j b p is none e =
-    subst (λ n. any_arm_lacks d depth m paths (count_up n (j + 1)) ≡ any_arm_lacks d depth m paths (count_up (suc left) j)) (sym (one_less left))
-    (subst (λ k. any_arm_lacks d depth m paths (count_up left k) ≡ any_arm_lacks d depth m paths (count_up (suc left) j)) (one_more j)
-    (ap (λ z. z || any_arm_lacks d depth m paths (count_up left (suc j))) (sym none ∙ is ∙ ap (λ z. lacks_within d depth z) e)))
+pub next_arm : (d : Definition) (depth m : ℕ) (paths inside : List (List InnerArm)) (count j : ℕ) (b whole : Bool) → j < count → b ≡ lacks_within d depth inside → b ≡ false
+    → inside ≡ paths_inside (m, j) paths → any_arm_lacks d depth m paths (count_up (count - j) j) ≡ whole → any_arm_lacks d depth m paths (count_up (count - (j + 1)) (j + 1)) ≡ whole
+next_arm d depth m paths inside count j b whole below is none e so_far =
+    let rest = any_arm_lacks d depth m paths (count_up (count - (j + 1)) (j + 1)) in
+    ap (λ z. z || rest) (sym none ∙ is ∙ ap (λ z. lacks_within d depth z) e) ∙ sym (ap (any_arm_lacks d depth m paths) (counted count j below)) ∙ so_far
 
 not_empty : {A : Type 0} → (xs : List A) → length xs ≢ 0 → is_empty xs ≡ false
 not_empty [] p = absurd (p refl)

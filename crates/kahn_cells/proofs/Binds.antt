@@ -3,8 +3,8 @@ use Rattle.std.specs.Prelude.{◌≡◌, ℕ, ◌+◌, ◌<◌, ◌||◌, Bool, 
 use Rattle.std.proofs.Common.{ap, sym, ◌∙◌, arith, drop, get_or}
 use Rattle.std.proofs.lemmas.Grind.{common_steps}
 use Rattle.ls_ast.specs.declared.tree.Pat.{Pat}
-use Rattle.ls_sig.specs.Patterns.{joined, names_of}
-use Rattle.kahn_model.specs.Functions.{has_name}
+use Rattle.ls_places.specs.Patterns.{joined, names_of}
+use Rattle.ls_places.specs.Patterns.{has_name}
 use Rattle.kahn_cells.proofs.Lists.{has_name_append}
 
 pub one_on : {A : Type 0} → (all : List A) (i : ℕ) (p : A) → i < length all → get_or all i p ≡ p → drop i all ≡ p ∷ drop (i + 1) all

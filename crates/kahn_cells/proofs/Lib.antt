@@ -1,6 +1,11 @@
 pub mod Lists
 pub mod Steps
-pub mod Taken
 pub mod Binds
 pub mod NotedForms
+pub mod Leaves
+pub mod Maps
+pub mod Grouping
+pub mod Clocking
 pub mod Arms
+pub mod Lacking
+pub mod Arrows

@@ -8,9 +8,9 @@ use Rattle.ls_ast.specs.declared.tree.Form.{Form, fold-roll-Form}
 use Rattle.ls_ast.specs.declared.tree.Form.TheOpen.{Form-F}
 use Rattle.ls_ast.specs.declared.tree.Form.TheVariants.{Call, Merge, rolls-Call, rolls-Merge}
 use Rattle.ls_terms.specs.declared.clocks.ClockTerm.{ClockTerm}
-use Rattle.ls_sig.specs.Patterns.{joined}
+use Rattle.ls_places.specs.Patterns.{joined}
 use Rattle.ls_sig.specs.declared.binder.Note.{Note}
-use Rattle.kahn_model.specs.Clocks.{choice_parts, clocks_expr, clocks_form, clocks_in}
+use Rattle.ls_places.specs.Clocks.{choice_parts, clocks_expr, clocks_form, clocks_in}
 use Rattle.kahn_cells.specs.Parts.{choices_clocks, clocks_of}
 use Rattle.kahn_cells.proofs.Lists.{joined_append}
 

@@ -1,3 +1,7 @@
 pub mod Parts
-pub mod Operands
 pub mod Paths
+pub mod Groups
+pub mod Homes
+pub mod Signals
+pub mod Prepared
+pub mod Constructors

@@ -1,6 +1,7 @@
 //! What a cell says, and cells on a clock.
 
 ghost use Rattle.std.specs.Prelude.{◌≡◌, IfOk, Some};
+ghost use Rattle.std.specs.Option.{option_copied};
 ghost use Rattle.kahn_model.specs.Cells as spec;
 ghost use Rattle.kahn_model.specs.Rows as rows;
 
@@ -11,24 +12,24 @@ use ls_base::{List, NoMemory};
 use std::alloc::Global;
 
 /// An equal cell.
-pub fn copy_cell(c: &Cell, alloc: Global) -> Result<Cell, NoMemory>
+pub fn copy_cell(alloc: Global, c: &Cell) -> Result<Cell, NoMemory>
     ensures { IfOk result (λ r. r ≡ c.now) }
 {
     match c {
         Cell::Absent => Ok(Cell::Absent),
         Cell::Silent => Ok(Cell::Silent),
-        Cell::Present(w) => Ok(Cell::Present(copy_value(w, alloc)?)),
+        Cell::Present(w) => Ok(Cell::Present(copy_value(alloc, w)?)),
         Cell::Chosen(j, restart) => Ok(Cell::Chosen(*j, *restart)),
     }
 }
 
 /// An equal cell, where it is known.
-pub fn copy_known(c: &Option<Cell>, alloc: Global) -> Result<Option<Cell>, NoMemory>
-    ensures { IfOk result (λ r. r ≡ c.now) }
+pub fn copy_known(alloc: Global, c: Option<&Cell>) -> Result<Option<Cell>, NoMemory>
+    ensures { IfOk result (λ r. r ≡ option_copied c.entry) }
 {
     match c {
         None => Ok(None),
-        Some(c) => Ok(Some(copy_cell(c, alloc)?)),
+        Some(c) => Ok(Some(copy_cell(alloc, c)?)),
     }
 }
 
@@ -72,17 +73,6 @@ pub fn emitted(c: &Cell) -> bool
     }
 }
 
-pub fn is_here(c: &Cell) -> bool
-    ensures { result ≡ spec.is_here c.now }
-{
-    match c {
-        Cell::Absent => false,
-        Cell::Silent => true,
-        Cell::Present(_) => true,
-        Cell::Chosen(_, _) => true,
-    }
-}
-
 /// The value of a cell, and Nil where it has none.
 pub fn value_in(c: Cell) -> Value
     ensures { result ≡ spec.value_in c }
@@ -95,8 +85,8 @@ pub fn value_in(c: Cell) -> Value
     }
 }
 
-pub fn say_case(k: u32, c: &Option<Cell>) -> Option<bool>
-    ensures { result ≡ spec.say (spec.is_case k) c.now }
+pub fn say_case(k: u32, c: Option<&Cell>) -> Option<bool>
+    ensures { result ≡ spec.say (spec.is_case k) (option_copied c.entry) }
 {
     match c {
         None => None,
@@ -104,8 +94,8 @@ pub fn say_case(k: u32, c: &Option<Cell>) -> Option<bool>
     }
 }
 
-pub fn say_restarts(k: u32, c: &Option<Cell>) -> Option<bool>
-    ensures { result ≡ spec.say (spec.restarts k) c.now }
+pub fn say_restarts(k: u32, c: Option<&Cell>) -> Option<bool>
+    ensures { result ≡ spec.say (spec.restarts k) (option_copied c.entry) }
 {
     match c {
         None => None,
@@ -113,21 +103,12 @@ pub fn say_restarts(k: u32, c: &Option<Cell>) -> Option<bool>
     }
 }
 
-pub fn say_here(c: &Option<Cell>) -> Option<bool>
-    ensures { result ≡ spec.say spec.is_here c.now }
-{
-    match c {
-        None => None,
-        Some(c) => Some(is_here(c)),
-    }
-}
-
 /// The cell of a name in a pattern.
-pub fn part(pat: &Pat, x: u32, c: &Cell, alloc: Global) -> Result<Cell, NoMemory>
+pub fn part(alloc: Global, pat: &Pat, x: u32, c: &Cell) -> Result<Cell, NoMemory>
     ensures { IfOk result (λ r. r ≡ spec.part pat.now x c.now) }
 {
     match c {
-        Cell::Present(w) => match pick(pat, x, w, alloc)? {
+        Cell::Present(w) => match pick(alloc, pat, x, w)? {
             Some(found) => Ok(Cell::Present(found)),
             None => Ok(Cell::Present(nil())),
         },
@@ -178,38 +159,38 @@ pub fn both(a: Option<bool>, b: Option<bool>) -> Option<bool>
     }
 }
 
-fn gather(cells: &[Option<Cell>], alloc: Global) -> Result<Option<List<Cell>>, NoMemory>
+fn gather(alloc: Global, cells: &[Option<Cell>]) -> Result<Option<List<Cell>>, NoMemory>
     ensures { IfOk result (λ r. r ≡ rows.know_all cells.now) }
 {
     let mut done = List::new(alloc);
     for c in cells {
         match c {
             None => return Ok(None),
-            Some(c) => done.push(copy_cell(c, alloc)?)?,
+            Some(c) => done.push(copy_cell(alloc, c)?)?,
         }
     }
     Ok(Some(done))
 }
 
-fn values_of(cells: &[Cell], alloc: Global) -> Result<List<Value>, NoMemory>
+fn values_of(alloc: Global, cells: &[Cell]) -> Result<List<Value>, NoMemory>
     ensures { IfOk result (λ r. r ≡ spec.values_in cells.now) }
 {
     let mut done = List::new(alloc);
     for c in cells {
-        done.push(value_in(copy_cell(c, alloc)?))?;
+        done.push(value_in(copy_cell(alloc, c)?))?;
     }
     Ok(done)
 }
 
 /// The values of some cells, where all of them are known.
 pub fn known_values(
-    cells: List<Option<Cell>>,
     alloc: Global,
+    cells: List<Option<Cell>>,
 ) -> Result<Option<List<Value>>, NoMemory>
     ensures { IfOk result (λ r. r ≡ rows.know (rows.know_all cells) (λ cs. Some (spec.values_in cs))) }
 {
-    match gather(cells.as_slice(), alloc)? {
+    match gather(alloc, cells.as_slice())? {
         None => Ok(None),
-        Some(known) => Ok(Some(values_of(known.as_slice(), alloc)?)),
+        Some(known) => Ok(Some(values_of(alloc, known.as_slice())?)),
     }
 }

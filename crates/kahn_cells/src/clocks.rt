@@ -1,78 +1,47 @@
-//! Clock terms: what occurs in them.
+//! Clock terms: what occurs in them, and those that are noted in an expression.
 
-ghost use Rattle.std.specs.Prelude.{◌≡◌, ◌++◌, IfOk, OnOk, map};
-ghost use Rattle.std.specs.Option.{option_copied};
-ghost use Rattle.kahn_model.specs.Clocks as spec;
+ghost use Rattle.std.specs.Prelude.{◌≡◌, ◌++◌, ◌||◌, nat_eq, IfOk, OnOk, map};
+ghost use Rattle.indexmap.specs.IndexSet.{contains};
 ghost use Rattle.kahn_cells.specs.Parts as own;
-ghost use Rattle.ls_sig.specs.Patterns.{joined};
+ghost use Rattle.ls_places.specs.Clocks as spec;
+ghost use Rattle.ls_places.specs.Patterns.{joined};
 ghost use Rattle.ls_terms.specs.declared.clocks.ClockTerm.{out-ClockTerm};
 
+use indexmap::IndexSet;
 use ls_ast::{Case, Expr, Form};
 use ls_base::{List, NoMemory, NoteCopy};
 use ls_sig::Note;
 use ls_terms::{ClockTerm, TypeTerm};
 use std::alloc::Global;
 
-#[cycle(mentions)]
-pub fn any_mentions(v: u32, all: &[ClockTerm]) -> bool
-    ensures { result ≡ spec.any (map (spec.mentions v) all.now) }
+/// Adds the variables of some clocks.
+#[cycle(variables)]
+pub fn add_all_variables(all: &[ClockTerm], done: &mut IndexSet<u32>) -> Result<(), NoMemory>
+    ensures { OnOk result (own.AddsClockVariables done.old (own.any_mentions all.now) done.new) }
 {
     for ck in all {
-        if mentions(v, ck) {
-            return true;
-        }
-    }
-    false
-}
-
-/// Whether a clock has the variable `v`.
-#[cycle(mentions)]
-pub fn mentions(v: u32, ck: &ClockTerm) -> bool
-    ensures { result ≡ spec.mentions v ck.now }
-{
-    match ck {
-        ClockTerm::Var(w) => v == *w,
-        ClockTerm::On(inner, _, _) => mentions(v, inner.get()),
-        ClockTerm::Pointwise => false,
-        ClockTerm::Arrow(all, to) => any_mentions(v, all.as_slice()) || mentions(v, to.get()),
-    }
-}
-
-#[cycle(names)]
-fn add_all_names(all: &[ClockTerm], done: &mut List<u32>) -> Result<(), NoMemory>
-    ensures { OnOk result (done.new ≡ done.old ++ joined (map spec.names_in all.now)) }
-{
-    for ck in all {
-        add_names(ck, done)?;
+        add_variables(ck, done)?;
     }
     Ok(())
 }
 
-#[cycle(names)]
-fn add_names(ck: &ClockTerm, done: &mut List<u32>) -> Result<(), NoMemory>
-    ensures { OnOk result (done.new ≡ done.old ++ spec.names_in ck.now) }
+/// Adds the variables of a clock.
+#[cycle(variables)]
+pub fn add_variables(ck: &ClockTerm, done: &mut IndexSet<u32>) -> Result<(), NoMemory>
+    ensures { OnOk result (own.AddsClockVariables done.old (own.mentioned ck.now) done.new) }
 {
     match ck {
-        ClockTerm::Var(_) => Ok(()),
-        ClockTerm::On(inner, m, _) => {
-            done.push(*m)?;
-            add_names(inner.get(), done)
-        }
+        ClockTerm::Var(w) => match done.insert(*w) {
+            Ok(_) => Ok(()),
+            Err(_) => Err(NoMemory),
+        },
+        ClockTerm::On(inner, _, _) => add_variables(inner.get(), done),
         ClockTerm::Pointwise => Ok(()),
         ClockTerm::Arrow(all, to) => {
-            add_all_names(all.as_slice(), done)?;
-            add_names(to.get(), done)
+            add_all_variables(all.as_slice(), done)?;
+            add_variables(to.get(), done)
         }
     }
-}
-
-/// The names that a clock is sampled on.
-pub fn names_in(ck: &ClockTerm, alloc: Global) -> Result<List<u32>, NoMemory>
-    ensures { IfOk result (λ r. r ≡ spec.names_in ck.now) }
-{
-    let mut done = List::new(alloc);
-    add_names(ck, &mut done)?;
-    Ok(done)
 }
 
 fn inner(ck: &ClockTerm) -> &ClockTerm
@@ -90,11 +59,15 @@ fn inner(ck: &ClockTerm) -> &ClockTerm
 pub fn bare(n: usize, ck: &ClockTerm) -> &ClockTerm
     ensures { result.now ≡ spec.bare n ck.now }
 {
-    if n == 0 { ck } else { bare(n - 1, inner(ck)) }
+    let mut rest = ck;
+    for _i in 0..n {
+        rest = inner(rest);
+    }
+    rest
 }
 
 #[cycle(clocks)]
-fn add_forms(form: &Form<Note>, done: &mut List<ClockTerm>, alloc: Global) -> Result<(), NoMemory>
+fn add_forms(alloc: Global, form: &Form<Note>, done: &mut List<ClockTerm>) -> Result<(), NoMemory>
     ensures { OnOk result (done.new ≡ done.old ++ own.clocks_of form.now) }
 {
     match form {
@@ -103,24 +76,24 @@ fn add_forms(form: &Form<Note>, done: &mut List<ClockTerm>, alloc: Global) -> Re
         Form::Var(_) => Ok(()),
         Form::Last(_) => Ok(()),
         Form::Asked(_) => Ok(()),
-        Form::Op(_, args) => add_all_clocks(args.as_slice(), done, alloc),
-        Form::Tuple(all) => add_all_clocks(all.as_slice(), done, alloc),
-        Form::Pre(e) => add_clocks(e, done, alloc),
+        Form::Op(_, args) => add_all_clocks(alloc, args.as_slice(), done),
+        Form::Tuple(all) => add_all_clocks(alloc, all.as_slice(), done),
+        Form::Pre(e) => add_clocks(alloc, e, done),
         Form::Fby(a, b) => {
-            add_clocks(a, done, alloc)?;
-            add_clocks(b, done, alloc)
+            add_clocks(alloc, a, done)?;
+            add_clocks(alloc, b, done)
         }
         Form::Init(a, b) => {
-            add_clocks(a, done, alloc)?;
-            add_clocks(b, done, alloc)
+            add_clocks(alloc, a, done)?;
+            add_clocks(alloc, b, done)
         }
-        Form::When(e, _, _) => add_clocks(e, done, alloc),
-        Form::Merge(_, choices) => add_choice_clocks(choices.as_slice(), done, alloc),
+        Form::When(e, _, _) => add_clocks(alloc, e, done),
+        Form::Merge(_, choices) => add_choice_clocks(alloc, choices.as_slice(), done),
         Form::Call { args, every, .. } => {
-            add_all_clocks(args.as_slice(), done, alloc)?;
+            add_all_clocks(alloc, args.as_slice(), done)?;
             match every {
                 None => Ok(()),
-                Some(e) => add_clocks(e, done, alloc),
+                Some(e) => add_clocks(alloc, e, done),
             }
         }
     }
@@ -128,39 +101,47 @@ fn add_forms(form: &Form<Note>, done: &mut List<ClockTerm>, alloc: Global) -> Re
 
 #[cycle(clocks)]
 fn add_all_clocks(
+    alloc: Global,
     all: &[Expr<Note>],
     done: &mut List<ClockTerm>,
-    alloc: Global,
 ) -> Result<(), NoMemory>
     ensures { OnOk result (done.new ≡ done.old ++ joined (map spec.clocks_in all.now)) }
 {
     for e in all {
-        add_clocks(e, done, alloc)?;
+        add_clocks(alloc, e, done)?;
     }
     Ok(())
 }
 
 #[cycle(clocks)]
 fn add_choice_clocks(
+    alloc: Global,
     all: &[(Case, Expr<Note>)],
     done: &mut List<ClockTerm>,
-    alloc: Global,
 ) -> Result<(), NoMemory>
     ensures { OnOk result (done.new ≡ done.old ++ joined (spec.choice_parts (own.choices_clocks all.now))) }
 {
     for choice in all {
-        add_clocks(&choice.1, done, alloc)?;
+        add_clocks(alloc, &choice.1, done)?;
     }
     Ok(())
 }
 
-/// Adds the clocks noted in an expression.
 #[cycle(clocks)]
-pub fn add_clocks(e: &Expr<Note>, done: &mut List<ClockTerm>, alloc: Global) -> Result<(), NoMemory>
+fn add_clocks(alloc: Global, e: &Expr<Note>, done: &mut List<ClockTerm>) -> Result<(), NoMemory>
     ensures { OnOk result (done.new ≡ done.old ++ spec.clocks_in e.now) }
 {
     done.push(e.note.ck.copy(alloc)?)?;
-    add_forms(e.form.get(), done, alloc)
+    add_forms(alloc, e.form.get(), done)
+}
+
+/// The clocks noted in an expression.
+pub fn clocks_in(alloc: Global, e: &Expr<Note>) -> Result<List<ClockTerm>, NoMemory>
+    ensures { IfOk result (λ r. r ≡ spec.clocks_in e.now) }
+{
+    let mut done = List::new(alloc);
+    add_clocks(alloc, e, &mut done)?;
+    Ok(done)
 }
 
 /// Whether an expression is a function.
@@ -170,36 +151,5 @@ pub fn is_function(note: &Note) -> bool
     match note.ty {
         TypeTerm::Arrow(_, _, _) => true,
         _ => false,
-    }
-}
-
-/// The clock below a sampling on `m`, looked for from the outside in.
-fn below(m: u32, ck: &ClockTerm) -> Option<&ClockTerm>
-    ensures { option_copied result ≡ spec.below (spec.clock_depth ck.now) m ck.now }
-{
-    match ck {
-        ClockTerm::On(inner, n, _) => {
-            if *n == m {
-                Some(inner.get())
-            } else {
-                below(m, inner.get())
-            }
-        }
-        ClockTerm::Var(_) => None,
-        ClockTerm::Pointwise => None,
-        ClockTerm::Arrow(_, _) => None,
-    }
-}
-
-/// The clock of the block with the clock name `m`, by the first clock that is sampled on it.
-pub fn noted(m: u32, all: &[ClockTerm]) -> Option<&ClockTerm>
-    ensures { option_copied result ≡ spec.noted m all.now }
-{
-    match all {
-        [] => None,
-        [ck, rest @ ..] => match below(m, ck) {
-            Some(found) => Some(found),
-            None => noted(m, rest),
-        },
     }
 }

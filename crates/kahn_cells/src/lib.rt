@@ -1,12 +1,17 @@
-//! Values, cells and clocks of the network of streams, and what is looked up among the places of a
-//! definition: each as the network defines it.
+//! Values and cells of the network of streams, each as the network defines it, and a definition
+//! with what is looked up in it worked out once.
 #![tactic(auto)]
 
 pub mod cells;
 pub mod clocks;
-mod operands;
-pub mod paths;
+mod constructors;
+mod groups;
+mod homes;
+mod paths;
+mod prepared;
 pub mod search;
-#[cfg(test)]
-mod tests;
+mod signals;
 pub mod values;
+
+pub use constructors::Constructors;
+pub use prepared::Prepared;

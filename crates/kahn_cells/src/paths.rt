@@ -1,19 +1,19 @@
 //! Arms without an equation for a variable.
 
 ghost use Rattle.std.specs.Prelude.{◌≡◌, ◌+◌, ◌++◌, ◌<◌, ◌^◌, IfOk, OnOk};
-ghost use Rattle.kahn_model.specs.Search as spec;
-ghost use Rattle.kahn_cells.specs.Paths as own;
-ghost use Rattle.ls_sig.specs.Patterns.{joined};
-ghost use Rattle.ls_sig.specs.Places.{option_list};
 ghost use Rattle.std.specs.Option.{option_copied};
+ghost use Rattle.kahn_cells.specs.Groups as groups;
+ghost use Rattle.kahn_cells.specs.Paths as own;
+ghost use Rattle.ls_places.specs.Patterns.{joined};
+ghost use Rattle.ls_places.specs.Places.{option_list};
+ghost use Rattle.ls_places.specs.Search as spec;
 
 use crate::search::{copy_arms, nth};
-use kahn_model::Definition;
 use ls_base::{List, NoMemory};
-use ls_sig::{Named, Note, Site};
+use ls_places::{Definition, Named, Site};
 use std::alloc::Global;
 
-fn arm_count(named: Option<&Named<Note>>) -> usize
+fn arm_count(named: Option<&Named>) -> usize
     ensures value { result ≡ spec.arm_count (option_copied named.entry) }
     ensures few { result < 2 ^ 32 }
 {
@@ -37,11 +37,11 @@ fn count_arms(d: &Definition, m: u32) -> usize
 }
 
 fn add_path_inside(
+    alloc: Global,
     m: u32,
     j: u32,
     path: &[(u32, u32)],
     done: &mut List<List<(u32, u32)>>,
-    alloc: Global,
 ) -> Result<(), NoMemory>
     ensures { OnOk result (done.new ≡ done.old ++ option_list (spec.path_inside (m, j) path.now)) }
 {
@@ -49,7 +49,7 @@ fn add_path_inside(
         [] => Ok(()),
         [a, more @ ..] => {
             if a.0 == m && a.1 == j {
-                done.push(copy_arms(more, alloc)?)
+                done.push(copy_arms(alloc, more)?)
             } else {
                 Ok(())
             }
@@ -57,31 +57,31 @@ fn add_path_inside(
     }
 }
 
-fn add_paths_inside(
+/// What is around equations within an arm, for those that are in it.
+fn paths_inside(
+    alloc: Global,
     m: u32,
     j: u32,
     all: &[List<(u32, u32)>],
-    done: &mut List<List<(u32, u32)>>,
-    alloc: Global,
-) -> Result<(), NoMemory>
-    ensures { OnOk result (done.new ≡ done.old ++ spec.paths_inside (m, j) all.now) }
+) -> Result<List<List<(u32, u32)>>, NoMemory>
+    ensures { IfOk result (λ r. r ≡ spec.paths_inside (m, j) all.now) }
 {
-    match all {
-        [] => Ok(()),
-        [path, rest @ ..] => {
-            add_path_inside(m, j, path.as_slice(), done, alloc)?;
-            add_paths_inside(m, j, rest, done, alloc)
-        }
+    let mut done = List::new(alloc);
+    for path in all {
+        add_path_inside(alloc, m, j, path.as_slice(), &mut done)?;
     }
+    Ok(done)
 }
 
 fn any_empty(all: &[List<(u32, u32)>]) -> bool
     ensures { result ≡ own.any_empty all.now }
 {
-    match all {
-        [] => false,
-        [path, rest @ ..] => path.len() == 0 || any_empty(rest),
+    for path in all {
+        if path.len() == 0 {
+            return true;
+        }
     }
+    false
 }
 
 fn outer_block(all: &[List<(u32, u32)>]) -> u32
@@ -96,40 +96,36 @@ fn outer_block(all: &[List<(u32, u32)>]) -> u32
     }
 }
 
-/// Whether one of `left` arms of a block, from the arm `j` on, lacks an equation.
+/// Whether one of so many arms of a block lacks an equation.
 #[cycle(lacks)]
 fn any_arm_lacks(
+    alloc: Global,
     d: &Definition,
     depth: usize,
     m: u32,
     paths: &[List<(u32, u32)>],
-    j: u32,
-    left: usize,
-    alloc: Global,
+    count: usize,
 ) -> Result<bool, NoMemory>
-    requires { j + left < 2 ^ 32 }
-    ensures { IfOk result (λ r. r ≡ own.any_arm_lacks d.now depth m paths.now (spec.count_up left j)) }
+    requires { count < 2 ^ 32 }
+    ensures { IfOk result (λ r. r ≡ own.any_arm_lacks d.now depth m paths.now (spec.count_up count 0)) }
 {
-    if left == 0 {
-        return Ok(false);
+    for j in 0..count {
+        let inside = paths_inside(alloc, m, j as u32, paths)?;
+        if lacks_within(alloc, d, depth, inside.as_slice())? {
+            return Ok(true);
+        }
     }
-    let mut inside = List::new(alloc);
-    add_paths_inside(m, j, paths, &mut inside, alloc)?;
-    if lacks_within(d, depth, inside.as_slice(), alloc)? {
-        Ok(true)
-    } else {
-        any_arm_lacks(d, depth, m, paths, j + 1, left - 1, alloc)
-    }
+    Ok(false)
 }
 
 /// Whether some arm, of the blocks around these paths, has none of them: looked for at most so
 /// many blocks deep.
 #[cycle(lacks)]
 fn lacks_within(
+    alloc: Global,
     d: &Definition,
     depth: usize,
     paths: &[List<(u32, u32)>],
-    alloc: Global,
 ) -> Result<bool, NoMemory>
     ensures { IfOk result (λ r. r ≡ spec.lacks_within d.now depth paths.now) }
 {
@@ -144,61 +140,51 @@ fn lacks_within(
     }
     let m = outer_block(paths);
     let count = count_arms(d, m);
-    any_arm_lacks(d, depth - 1, m, paths, 0, count, alloc)
-}
-
-fn add_site_paths(
-    x: u32,
-    all: &[Site<Note>],
-    done: &mut List<List<(u32, u32)>>,
-    alloc: Global,
-) -> Result<(), NoMemory>
-    ensures { OnOk result (done.new ≡ done.old ++ own.site_paths (spec.sites_of x all.now)) }
-{
-    match all {
-        [] => Ok(()),
-        [s, rest @ ..] => {
-            if s.var == x {
-                done.push(copy_arms(s.inner.as_slice(), alloc)?)?;
-                add_site_paths(x, rest, done, alloc)
-            } else {
-                add_site_paths(x, rest, done, alloc)
-            }
-        }
-    }
+    any_arm_lacks(alloc, d, depth - 1, m, paths, count)
 }
 
 fn add_path(path: &[(u32, u32)], done: &mut List<(u32, u32)>) -> Result<(), NoMemory>
     ensures { OnOk result (done.new ≡ done.old ++ path.now) }
 {
-    match path {
-        [] => Ok(()),
-        [a, rest @ ..] => {
-            done.push(*a)?;
-            add_path(rest, done)
-        }
+    for a in path {
+        done.push(*a)?;
     }
+    Ok(())
 }
 
-fn add_joined(all: &[List<(u32, u32)>], done: &mut List<(u32, u32)>) -> Result<(), NoMemory>
-    ensures { OnOk result (done.new ≡ done.old ++ joined all.now) }
+/// The arms of all these paths.
+fn join(alloc: Global, all: &[List<(u32, u32)>]) -> Result<List<(u32, u32)>, NoMemory>
+    ensures { IfOk result (λ r. r ≡ joined all.now) }
 {
-    match all {
-        [] => Ok(()),
-        [path, rest @ ..] => {
-            add_path(path.as_slice(), done)?;
-            add_joined(rest, done)
-        }
+    let mut done = List::new(alloc);
+    for path in all {
+        add_path(path.as_slice(), &mut done)?;
     }
+    Ok(done)
 }
 
-/// Whether some arm has no equation for the variable `x`.
-pub fn lacks(d: &Definition, x: u32, alloc: Global) -> Result<bool, NoMemory>
-    ensures { IfOk result (λ r. r ≡ spec.lacks d.now (spec.sites_of x d.now.places.sites)) }
+/// What is around the sites of these numbers within their lists.
+fn site_paths(
+    alloc: Global,
+    sites: &[Site],
+    numbers: &[u32],
+) -> Result<List<List<(u32, u32)>>, NoMemory>
+    ensures { IfOk result (λ r. r ≡ own.site_paths (groups.picked sites.now numbers.now)) }
 {
-    let mut paths = List::new(alloc);
-    add_site_paths(x, d.places.sites.as_slice(), &mut paths, alloc)?;
-    let mut all = List::new(alloc);
-    add_joined(paths.as_slice(), &mut all)?;
-    lacks_within(d, all.len() + 1, paths.as_slice(), alloc)
+    let mut done = List::new(alloc);
+    for k in numbers {
+        if let Some(s) = nth(sites, *k as usize) {
+            done.push(copy_arms(alloc, s.inner.as_slice())?)?;
+        }
+    }
+    Ok(done)
+}
+
+/// Whether some arm has no equation for a variable that has the sites of these numbers.
+pub fn lacks(alloc: Global, d: &Definition, numbers: &[u32]) -> Result<bool, NoMemory>
+    ensures { IfOk result (λ r. r ≡ spec.lacks d.now (groups.picked d.now.places.sites numbers.now)) }
+{
+    let paths = site_paths(alloc, d.places.sites.as_slice(), numbers)?;
+    let all = join(alloc, paths.as_slice())?;
+    lacks_within(alloc, d, all.len() + 1, paths.as_slice())
 }

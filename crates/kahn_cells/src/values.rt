@@ -5,13 +5,12 @@ ghost use Rattle.kahn_model.specs.Values as spec;
 ghost use Rattle.kahn_model.specs.declared.cell.Value.TheOpen.{Value-F};
 ghost use Rattle.kahn_cells.specs.Parts as own;
 ghost use Rattle.ls_ops.specs.declared.kinds.Op.{Op};
-ghost use Rattle.ls_sig.specs.Patterns.{joined};
+ghost use Rattle.ls_places.specs.Patterns.{joined};
 
-use crate::operands::operate;
 use kahn_model::Value;
 use ls_ast::Pat;
 use ls_base::{List, NoMemory};
-use ls_ops::{Alarm, Op};
+use ls_ops::{Alarm, Op, evaluate};
 use ls_value::Leaf;
 use std::alloc::Global;
 
@@ -23,24 +22,24 @@ pub fn nil() -> Value
 }
 
 #[cycle(copy)]
-fn copy_values(all: &[Value], alloc: Global) -> Result<List<Value>, NoMemory>
+fn copy_values(alloc: Global, all: &[Value]) -> Result<List<Value>, NoMemory>
     ensures { IfOk result (λ r. r ≡ all.now) }
 {
     let mut done = List::new(alloc);
     for x in all {
-        done.push(copy_value(x, alloc)?)?;
+        done.push(copy_value(alloc, x)?)?;
     }
     Ok(done)
 }
 
 /// An equal value.
 #[cycle(copy)]
-pub fn copy_value(x: &Value, alloc: Global) -> Result<Value, NoMemory>
+pub fn copy_value(alloc: Global, x: &Value) -> Result<Value, NoMemory>
     ensures { IfOk result (λ r. r ≡ x.now) }
 {
     match x {
         Value::Leaf(leaf) => Ok(Value::Leaf(*leaf)),
-        Value::Tuple(parts) => Ok(Value::Tuple(copy_values(parts.as_slice(), alloc)?)),
+        Value::Tuple(parts) => Ok(Value::Tuple(copy_values(alloc, parts.as_slice())?)),
     }
 }
 
@@ -63,10 +62,12 @@ pub fn is_nil(x: &Value) -> bool
 fn all_nil(all: &[Value]) -> bool
     ensures { result ≡ spec.all_nil all.now }
 {
-    match all {
-        [] => true,
-        [x, rest @ ..] => is_nil(x) && all_nil(rest),
+    for x in all {
+        if !is_nil(x) {
+            return false;
+        }
     }
+    true
 }
 
 /// A tuple; one whose parts are all Nil is Nil.
@@ -109,12 +110,12 @@ pub fn case_of(x: &Value) -> Option<u32>
 }
 
 /// The first of some values, and Nil where there is none.
-fn head(values: &[Value], alloc: Global) -> Result<Value, NoMemory>
+fn head(alloc: Global, values: &[Value]) -> Result<Value, NoMemory>
     ensures { IfOk result (λ r. r ≡ own.head values.now) }
 {
     match values {
         [] => Ok(nil()),
-        [w, ..] => copy_value(w, alloc),
+        [w, ..] => copy_value(alloc, w),
     }
 }
 
@@ -130,16 +131,16 @@ fn tail(values: &[Value]) -> &[Value]
 
 #[cycle(pick)]
 fn pick_in(
+    alloc: Global,
     parts: &[Pat],
     x: u32,
     values: &[Value],
-    alloc: Global,
 ) -> Result<Option<Value>, NoMemory>
     ensures { IfOk result (λ r. r ≡ spec.pick_in (map spec.pick parts.now) x values.now) }
 {
     let mut rest = values;
     for p in parts {
-        let found = pick(p, x, &head(rest, alloc)?, alloc)?;
+        let found = pick(alloc, p, x, &head(alloc, rest)?)?;
         if found.is_some() {
             return Ok(found);
         }
@@ -159,7 +160,7 @@ fn parts(x: &Value) -> &[Value]
 
 /// The part of a value that a pattern gives to a name; a part of Nil is Nil.
 #[cycle(pick)]
-pub fn pick(pat: &Pat, x: u32, value: &Value, alloc: Global) -> Result<Option<Value>, NoMemory>
+pub fn pick(alloc: Global, pat: &Pat, x: u32, value: &Value) -> Result<Option<Value>, NoMemory>
     ensures { IfOk result (λ r. r ≡ spec.pick pat.now x value.now) }
 {
     match pat {
@@ -167,12 +168,12 @@ pub fn pick(pat: &Pat, x: u32, value: &Value, alloc: Global) -> Result<Option<Va
         Pat::Unit => Ok(None),
         Pat::Var(name) => {
             if name.0 == x {
-                Ok(Some(copy_value(value, alloc)?))
+                Ok(Some(copy_value(alloc, value)?))
             } else {
                 Ok(None)
             }
         }
-        Pat::Tuple(all) => pick_in(all.as_slice(), x, parts(value), alloc),
+        Pat::Tuple(all) => pick_in(alloc, all.as_slice(), x, parts(value)),
     }
 }
 
@@ -196,7 +197,7 @@ fn add_leaves(x: &Value, done: &mut List<Leaf>) -> Result<(), NoMemory>
     }
 }
 
-fn leaves(x: &Value, alloc: Global) -> Result<List<Leaf>, NoMemory>
+fn leaves(alloc: Global, x: &Value) -> Result<List<Leaf>, NoMemory>
     ensures { IfOk result (λ r. r ≡ spec.leaves x.now) }
 {
     let mut done = List::new(alloc);
@@ -207,25 +208,49 @@ fn leaves(x: &Value, alloc: Global) -> Result<List<Leaf>, NoMemory>
 fn any_nil(all: &[Leaf]) -> bool
     ensures { result ≡ spec.any_nil all.now }
 {
+    for leaf in all {
+        if nil_leaf(leaf) {
+            return true;
+        }
+    }
+    false
+}
+
+/// The leaves after the first.
+fn other_leaves(all: &[Leaf]) -> &[Leaf]
+    ensures { result.now ≡ own.other_leaves all.now }
+{
     match all {
-        [] => false,
-        [l, rest @ ..] => nil_leaf(l) || any_nil(rest),
+        [] => all,
+        [_, rest @ ..] => rest,
     }
 }
 
+/// A conjunction, and whether two leaves are equal.
+fn and_equal(done: Leaf, a: Leaf, b: Leaf) -> Leaf
+    ensures { result ≡ own.and_equal done a b }
+{
+    let here = evaluate(Op::Equal, &[a, b]).0;
+    evaluate(Op::And, &[done, here]).0
+}
+
+/// Whether leaves are equal one by one, as far as both lists go: Nil where two of them have no
+/// shape in common.
 fn same_leaves(xs: &[Leaf], ys: &[Leaf]) -> Leaf
     ensures { result ≡ spec.same_leaves xs.now ys.now }
 {
-    match xs {
-        [] => Leaf::Bool(true),
-        [a, more @ ..] => match ys {
-            [] => Leaf::Bool(true),
-            [b, rest @ ..] => {
-                let here = operate(Op::Equal, &[*a, *b]).0;
-                operate(Op::And, &[here, same_leaves(more, rest)]).0
+    let mut done = Leaf::Bool(true);
+    let mut rest = ys;
+    for a in xs {
+        match rest.get(0) {
+            None => return done,
+            Some(b) => {
+                done = and_equal(done, *a, *b);
+                rest = other_leaves(rest);
             }
-        },
+        }
     }
+    done
 }
 
 #[tactic(auto, using(crate::proofs::Lists::any_nil_append))]
@@ -244,17 +269,17 @@ fn choose_leaf(c: Leaf, a: Leaf, w: &Value) -> Value
     ensures { result ≡ spec.choose_step c (Value-F.Leaf a) w.now }
 {
     match w {
-        Value::Leaf(b) => Value::Leaf(operate(Op::Choose, &[c, a, *b]).0),
+        Value::Leaf(b) => Value::Leaf(evaluate(Op::Choose, &[c, a, *b]).0),
         Value::Tuple(_) => nil(),
     }
 }
 
 #[cycle(choose)]
 fn choose_parts(
+    alloc: Global,
     c: Leaf,
     all: &[Value],
     values: &[Value],
-    alloc: Global,
 ) -> Result<List<Value>, NoMemory>
     ensures { IfOk result (λ r. r ≡ spec.choose_parts (map (spec.choose c) all.now) values.now) }
 {
@@ -264,7 +289,7 @@ fn choose_parts(
         match rest {
             [] => return Ok(done),
             [w, more @ ..] => {
-                done.push(choose(c, a, w, alloc)?)?;
+                done.push(choose(alloc, c, a, w)?)?;
                 rest = more;
             }
         }
@@ -274,16 +299,16 @@ fn choose_parts(
 
 /// The choice between two values, leaf by leaf.
 #[cycle(choose)]
-fn choose(c: Leaf, a: &Value, w: &Value, alloc: Global) -> Result<Value, NoMemory>
+fn choose(alloc: Global, c: Leaf, a: &Value, w: &Value) -> Result<Value, NoMemory>
     ensures { IfOk result (λ r. r ≡ spec.choose c a.now w.now) }
 {
     match a {
         Value::Leaf(leaf) => Ok(choose_leaf(c, *leaf, w)),
-        Value::Tuple(all) => Ok(tuple(choose_parts(c, all.as_slice(), parts(w), alloc)?)),
+        Value::Tuple(all) => Ok(tuple(choose_parts(alloc, c, all.as_slice(), parts(w))?)),
     }
 }
 
-fn the_leaves(args: &[Value], alloc: Global) -> Result<List<Leaf>, NoMemory>
+fn the_leaves(alloc: Global, args: &[Value]) -> Result<List<Leaf>, NoMemory>
     ensures { IfOk result (λ r. r ≡ map spec.the_leaf args.now) }
 {
     let mut done = List::new(alloc);
@@ -294,65 +319,65 @@ fn the_leaves(args: &[Value], alloc: Global) -> Result<List<Leaf>, NoMemory>
 }
 
 /// The value of an operator on leaves.
-fn eval_leaves(op: Op, args: &[Value], alloc: Global) -> Result<Value, NoMemory>
+fn eval_leaves(alloc: Global, op: Op, args: &[Value]) -> Result<Value, NoMemory>
     ensures { IfOk result (λ r. r ≡ own.by_leaves op args.now) }
 {
-    let leaves = the_leaves(args, alloc)?;
-    Ok(Value::Leaf(operate(op, leaves.as_slice()).0))
+    let leaves = the_leaves(alloc, args)?;
+    Ok(Value::Leaf(evaluate(op, leaves.as_slice()).0))
 }
 
-fn eval_equal(args: &[Value], alloc: Global) -> Result<Value, NoMemory>
+fn eval_equal(alloc: Global, args: &[Value]) -> Result<Value, NoMemory>
     ensures { IfOk result (λ r. r ≡ spec.eval Op.Equal args.now) }
 {
     match args {
         [a, b] => {
-            let xs = leaves(a, alloc)?;
-            let ys = leaves(b, alloc)?;
+            let xs = leaves(alloc, a)?;
+            let ys = leaves(alloc, b)?;
             Ok(Value::Leaf(equal(xs.as_slice(), ys.as_slice())))
         }
-        [] | [_] | [_, _, _, ..] => eval_leaves(Op::Equal, args, alloc),
+        [] | [_] | [_, _, _, ..] => eval_leaves(alloc, Op::Equal, args),
     }
 }
 
-fn eval_differ(args: &[Value], alloc: Global) -> Result<Value, NoMemory>
+fn eval_differ(alloc: Global, args: &[Value]) -> Result<Value, NoMemory>
     ensures { IfOk result (λ r. r ≡ spec.eval Op.Differ args.now) }
 {
     match args {
         [a, b] => {
-            let xs = leaves(a, alloc)?;
-            let ys = leaves(b, alloc)?;
+            let xs = leaves(alloc, a)?;
+            let ys = leaves(alloc, b)?;
             let same = equal(xs.as_slice(), ys.as_slice());
-            Ok(Value::Leaf(operate(Op::Not, &[same]).0))
+            Ok(Value::Leaf(evaluate(Op::Not, &[same]).0))
         }
-        [] | [_] | [_, _, _, ..] => eval_leaves(Op::Differ, args, alloc),
+        [] | [_] | [_, _, _, ..] => eval_leaves(alloc, Op::Differ, args),
     }
 }
 
-fn eval_choose(args: &[Value], alloc: Global) -> Result<Value, NoMemory>
+fn eval_choose(alloc: Global, args: &[Value]) -> Result<Value, NoMemory>
     ensures { IfOk result (λ r. r ≡ spec.eval Op.Choose args.now) }
 {
     match args {
-        [c, a, b] => choose(the_leaf(c), a, b, alloc),
-        [] | [_] | [_, _] | [_, _, _, _, ..] => eval_leaves(Op::Choose, args, alloc),
+        [c, a, b] => choose(alloc, the_leaf(c), a, b),
+        [] | [_] | [_, _] | [_, _, _, _, ..] => eval_leaves(alloc, Op::Choose, args),
     }
 }
 
 /// The value of an operator.
-pub fn eval(op: Op, args: &[Value], alloc: Global) -> Result<Value, NoMemory>
+pub fn eval(alloc: Global, op: Op, args: &[Value]) -> Result<Value, NoMemory>
     ensures { IfOk result (λ r. r ≡ spec.eval op args.now) }
 {
     match op {
-        Op::Equal => eval_equal(args, alloc),
-        Op::Differ => eval_differ(args, alloc),
-        Op::Choose => eval_choose(args, alloc),
-        _ => eval_leaves(op, args, alloc),
+        Op::Equal => eval_equal(alloc, args),
+        Op::Differ => eval_differ(alloc, args),
+        Op::Choose => eval_choose(alloc, args),
+        _ => eval_leaves(alloc, op, args),
     }
 }
 
 /// Whether an operator divides by zero.
-pub fn alarm(op: Op, args: &[Value], alloc: Global) -> Result<bool, NoMemory>
+pub fn alarm(alloc: Global, op: Op, args: &[Value]) -> Result<bool, NoMemory>
     ensures { IfOk result (λ r. r ≡ spec.alarm op args.now) }
 {
-    let leaves = the_leaves(args, alloc)?;
-    Ok(operate(op, leaves.as_slice()).1 == Alarm::Division)
+    let leaves = the_leaves(alloc, args)?;
+    Ok(evaluate(op, leaves.as_slice()).1 == Alarm::Division)
 }

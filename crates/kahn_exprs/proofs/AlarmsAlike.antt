@@ -8,7 +8,7 @@ use Rattle.ls_ast.specs.declared.tree.Form.{Form, fold_out-Form, map-Form, out-r
 use Rattle.ls_ast.specs.declared.tree.Form.TheOpen.{Form-F}
 use Rattle.ls_ast.specs.declared.tree.Form.TheVariants as form
 use Rattle.ls_ops.specs.declared.kinds.Op.{Op}
-use Rattle.ls_sig.specs.Places.{Place}
+use Rattle.ls_places.specs.Places.{Place}
 use Rattle.ls_sig.specs.declared.binder.Binder.{Binder}
 use Rattle.ls_sig.specs.declared.binder.Binder.TheVariants as binder
 use Rattle.ls_sig.specs.declared.binder.Note.{Note}
@@ -17,7 +17,7 @@ use Rattle.kahn_model.specs.Alarm
 use Rattle.kahn_model.specs.Alarm.{Heard, HeardForm, any_of, parts_alarm}
 use Rattle.kahn_model.specs.Alike.{ArgAlike, ArgsAlike, RowAlike}
 use Rattle.kahn_model.specs.Cells.{is_yes, say, values_in}
-use Rattle.kahn_model.specs.Clocks.{choice_parts, form_parts, is_function, option_part}
+use Rattle.ls_places.specs.Clocks.{choice_parts, form_parts, is_function, option_part}
 use Rattle.kahn_model.proofs.Related.{in_choices}
 use Rattle.kahn_model.specs.Functions.{Arg, Said, args_said, cells_at, clocks_said}
 use Rattle.kahn_model.specs.Rows.{Row, both, either, know, know_all}

@@ -1,14 +1,14 @@
 -- What stands at a call, below the number of lines.
 use Rattle.std.specs.Prelude.{◌≡◌, refl, ℕ, Bool, true, false, List, [], ◌∷◌, Option, Some, None, if◌then◌else◌}
 use Rattle.std.proofs.Common.{ap, sym, subst}
-use Rattle.ls_sig.specs.Places.{Place}
+use Rattle.ls_places.specs.Places.{Place}
 use Rattle.ls_sig.specs.declared.binder.Binder.{Binder}
 use Rattle.ls_sig.specs.declared.binder.Binder.TheVariants as binder
 use Rattle.ls_sig.specs.declared.binder.Note.{Note}
 use Rattle.kahn_model.specs.declared.cell.Cell.{Cell}
 use Rattle.kahn_model.specs.Alike.{ArgAlike, ArgsAlike, MeaningAlike, RowAlike}
 use Rattle.kahn_model.specs.Cells.{is_yes, say}
-use Rattle.kahn_model.specs.Clocks.{is_function}
+use Rattle.ls_places.specs.Clocks.{is_function}
 use Rattle.kahn_model.specs.Functions.{Arg, stream, def, given, Meaning, Said, args_said, give_args, row_of}
 use Rattle.kahn_model.specs.Rows.{Row, either}
 use Rattle.kahn_model.specs.Table.{cell_in}

@@ -9,10 +9,10 @@ use Rattle.ls_ast.specs.declared.tree.Expr.{Expr, Expr-F, fold-roll-Expr}
 use Rattle.ls_ast.specs.declared.tree.Form.{Form, fold-roll-Form}
 use Rattle.ls_ast.specs.declared.tree.Form.TheOpen.{Form-F}
 use Rattle.ls_ast.specs.declared.tree.Form.TheVariants as form
-use Rattle.ls_sig.specs.Places.{Place}
+use Rattle.ls_places.specs.Places.{Place}
 use Rattle.ls_sig.specs.declared.binder.Binder.{Binder}
 use Rattle.ls_terms.specs.declared.clocks.ClockTerm.{ClockTerm}
-use Rattle.kahn_model.specs.Search.{case_value}
+use Rattle.kahn_model.specs.Choices.{case_value}
 use Rattle.kahn_exprs.specs.Context.{arg_of}
 use Rattle.kahn_exprs.specs.declared.context.Argument.TheVariants as argument
 use Rattle.kahn_exprs.proofs.Targets.{arg_stream}
@@ -178,20 +178,20 @@ module _ (b : Body) (p : Place) where
     pre_alike e cells is q = ruled_from f (form.Pre e) (step (Form-F.Pre (spec.said b p e))) note (rule.Pre cells)
         (λ i. know (own.before b p note i) (after_first (Some (Present nil)) (spec.cell b p e))) is
         (ap (spec.said_form b p) (sym (form.rolls-Pre e)) ∙ fold-roll-Form Note (Note → Arg) Said step expr_step (Form-F.Pre e)) refl
-        (λ i h. delay_alike b.lines (spec.on b note.ck) (spec.again b p) (Some (Present nil)) (Some (Present nil)) (cell_in cells.now) (spec.cell b p e) i h refl (in_row cells.now (spec.cell b p e) q))
+        (λ i h. delay_alike b.lines (spec.on b note.ck) (spec.again_too b (spec.again b p) note.restarts) (Some (Present nil)) (Some (Present nil)) (cell_in cells.now) (spec.cell b p e) i h refl (in_row cells.now (spec.cell b p e) q))
 
     pub fby_alike : (x y : Expr Note) (xs ys : Bor own.Cells) → f ≡ form.Fby x y → xs.now ≡ val.row b p x → ys.now ≡ val.row b p y → ArgAlike b.lines (val.ruled b p note (rule.Fby xs ys)) (spec.said_form b p f note)
     fby_alike x y xs ys is q r = ruled_from f (form.Fby x y) (step (Form-F.Fby (spec.said b p x) (spec.said b p y))) note (rule.Fby xs ys)
         (λ i. know (own.before b p note i) (after_first (spec.cell b p x i) (spec.cell b p y))) is
         (ap (spec.said_form b p) (sym (form.rolls-Fby x y)) ∙ fold-roll-Form Note (Note → Arg) Said step expr_step (Form-F.Fby x y)) refl
-        (λ i h. delay_alike b.lines (spec.on b note.ck) (spec.again b p) (cell_in xs.now i) (spec.cell b p x i) (cell_in ys.now) (spec.cell b p y) i h (in_row xs.now (spec.cell b p x) q i h)
+        (λ i h. delay_alike b.lines (spec.on b note.ck) (spec.again_too b (spec.again b p) note.restarts) (cell_in xs.now i) (spec.cell b p x i) (cell_in ys.now) (spec.cell b p y) i h (in_row xs.now (spec.cell b p x) q i h)
         (in_row ys.now (spec.cell b p y) r))
 
     pub init_alike : (x y : Expr Note) (xs ys : Bor own.Cells) → f ≡ form.Init x y → xs.now ≡ val.row b p x → ys.now ≡ val.row b p y → ArgAlike b.lines (val.ruled b p note (rule.Init xs ys)) (spec.said_form b p f note)
     init_alike x y xs ys is q r = ruled_from f (form.Init x y) (step (Form-F.Init (spec.said b p x) (spec.said b p y))) note (rule.Init xs ys)
         (λ i. know (own.before b p note i) (after_first (spec.cell b p x i) (λ j. spec.cell b p y i))) is
         (ap (spec.said_form b p) (sym (form.rolls-Init x y)) ∙ fold-roll-Form Note (Note → Arg) Said step expr_step (Form-F.Init x y)) refl
-        (λ i h. delay_alike b.lines (spec.on b note.ck) (spec.again b p) (cell_in xs.now i) (spec.cell b p x i) (λ j. cell_in ys.now i) (λ j. spec.cell b p y i) i h (in_row xs.now (spec.cell b p x) q i h)
+        (λ i h. delay_alike b.lines (spec.on b note.ck) (spec.again_too b (spec.again b p) note.restarts) (cell_in xs.now i) (spec.cell b p x i) (λ j. cell_in ys.now i) (λ j. spec.cell b p y i) i h (in_row xs.now (spec.cell b p x) q i h)
         (λ j l. in_row ys.now (spec.cell b p y) r i h))
 
     pub when_alike : (e : Expr Note) (x : Name) (k : Case) (cells : own.Cells) → f ≡ form.When e x k → cells ≡ val.row b p e → ArgAlike b.lines (arg_of (argument.Stream cells)) (spec.said_form b p f note)

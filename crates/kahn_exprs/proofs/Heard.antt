@@ -5,7 +5,7 @@ use Rattle.ls_ast.specs.declared.tree.Case.{Case}
 use Rattle.ls_ast.specs.declared.tree.Expr.{Expr, Expr-F, fold-Expr, fold-roll-Expr}
 use Rattle.ls_ast.specs.declared.tree.Form.{Form, fold-Form, map-Form}
 use Rattle.ls_ast.specs.declared.tree.Form.TheOpen.{Form-F}
-use Rattle.ls_sig.specs.Places.{Place}
+use Rattle.ls_places.specs.Places.{Place}
 use Rattle.ls_sig.specs.declared.binder.Note.{Note}
 use Rattle.kahn_model.specs.Alarm
 use Rattle.kahn_model.specs.Alarm.{Heard, HeardForm}

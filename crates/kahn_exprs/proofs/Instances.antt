@@ -3,15 +3,15 @@ use Rattle.std.specs.Prelude.{◌≡◌, refl, ℕ, ◌==◌, ◌<◌, Bool, tru
 use Rattle.std.proofs.Common.{ap, sym, ◌∙◌, subst}
 use Rattle.ls_terms.specs.declared.clocks.ClockTerm.{ClockTerm, fold-roll-ClockTerm, ind-ClockTerm, map-ClockTerm, out-ClockTerm, roll-ClockTerm}
 use Rattle.ls_terms.specs.declared.clocks.ClockTerm.TheOpen.{ClockTerm-F}
-use Rattle.kahn_model.specs.declared.definition.Definition.{Definition}
+use Rattle.ls_places.specs.declared.definition.Definition.{Definition}
 use Rattle.kahn_model.specs.Alike.{ArgAlike, RowAlike}
-use Rattle.kahn_model.specs.Clocks.{Meets, meets, meets_all, meets_arrow, meets_on, meets_step}
+use Rattle.ls_places.specs.Clocks.{Meets, meets, meets_all, meets_arrow, meets_on, meets_step}
 use Rattle.kahn_model.specs.Functions.{def}
 use Rattle.kahn_model.specs.Rows.{Row}
-use Rattle.kahn_model.specs.Search.{nth}
+use Rattle.ls_places.specs.Search.{nth}
 use Rattle.kahn_model.specs.Table.{cell_in, written_row}
 use Rattle.kahn_model.specs.Turn
-use Rattle.kahn_model.specs.Values.{or_else}
+use Rattle.ls_places.specs.Clocks.{or_else}
 use Rattle.kahn_model.proofs.Alike.{written_alike}
 use Rattle.kahn_exprs.specs.declared.body.Body.{Body}
 use Rattle.kahn_exprs.specs.Body as spec
@@ -92,7 +92,7 @@ all_met (s ∷ ss) = (met_same s, all_met ss)
 
 module _ (b : Body) where
   abbrev row_at : Option ClockTerm → Row Bool
-  row_at = Turn.instance_row (spec.cases b) b.defs.now (spec.call b) b.def.now (spec.around b) (spec.table b)
+  row_at = Turn.where_on (spec.cases b) b.defs.now (spec.call b) b.def.now (spec.around b) (spec.table b)
 
   one_row : (t : Bool) (ck : ClockTerm) (rows : List (ℕ × List (Option Bool))) (o : Option ClockTerm) (w i : ℕ) → i < b.lines → clock_in rows w i ≡ row_at o i
       → (if t then cell_in (written_row b.lines 0 (spec.on b ck)) i else clock_in rows w i) ≡ row_at (if t then Some ck else o) i

@@ -13,3 +13,5 @@ pub mod ValuesAlike
 pub mod Heard
 pub mod AlarmsAlike
 pub mod Cells
+pub mod Standing
+pub mod Ended

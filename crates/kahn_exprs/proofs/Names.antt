@@ -1,14 +1,14 @@
 -- What stands for a name, below the number of lines.
-use Rattle.std.specs.Prelude.{◌≡◌, ℕ, Bool, true, false, List, [], ◌∷◌, Some, None, if◌then◌else◌}
+use Rattle.std.specs.Prelude.{◌≡◌, refl, ℕ, Bool, true, false, List, [], ◌∷◌, Some, None, if◌then◌else◌}
 use Rattle.std.proofs.Common.{sym, subst}
 use Rattle.ls_ast.specs.declared.tree.Pat.{Pat}
 use Rattle.ls_terms.specs.declared.clocks.ClockTerm.{ClockTerm}
-use Rattle.ls_sig.specs.Patterns.{names_of}
+use Rattle.ls_places.specs.Patterns.{has_name, names_of}
 use Rattle.ls_sig.specs.declared.binder.Binder.{Binder}
 use Rattle.ls_sig.specs.declared.binder.Binder.TheVariants as binder
-use Rattle.kahn_model.specs.declared.cell.Key.TheVariants as key
+use Rattle.ls_places.specs.declared.definition.Key.TheVariants as key
 use Rattle.kahn_model.specs.Alike.{ArgAlike, RowAlike}
-use Rattle.kahn_model.specs.Functions.{Arg, stream, def, given, has_name, nowhere, param_in, part_arg, row_of}
+use Rattle.kahn_model.specs.Functions.{Arg, stream, def, given, nowhere, param_in, part_arg, row_of}
 use Rattle.kahn_model.specs.Turn
 use Rattle.kahn_model.proofs.Alike.{arg_refl, row_refl, written_alike}
 use Rattle.kahn_exprs.specs.declared.body.Body.{Body}
@@ -18,7 +18,7 @@ use Rattle.kahn_exprs.specs.Body as spec
 use Rattle.kahn_exprs.specs.Context.{arg_of, arg_step, args_of, clock_in}
 use Rattle.kahn_exprs.specs.Instance.{head_at}
 use Rattle.kahn_exprs.specs.Streams.{look, param, part_of, part_open}
-use Rattle.kahn_exprs.proofs.Found.{part_at, row_read}
+use Rattle.kahn_exprs.proofs.Found.{part_at}
 use Rattle.kahn_exprs.proofs.Instances.{function_alike}
 
 -- the rows of what is alike are alike
@@ -48,7 +48,7 @@ param_alike n x (p ∷ ps) (g ∷ gs) = either_alike n (has_name x (names_of p))
 
 module _ (b : Body) where
   pub look_alike : (bound : Binder) (x : ℕ) → ArgAlike b.lines (look b bound x) (spec.look b bound x)
-  look_alike (binder.Var k) x = λ i l. row_read b.rows.now (key.Var k) i
+  look_alike (binder.Var k) x = λ i l. refl
   look_alike (binder.Param k) x = param_alike b.lines x b.def.now.params b.context.now.args
   look_alike binder.Nothing x = written_alike b.lines nowhere
   look_alike (binder.Def k) x = written_alike b.lines nowhere

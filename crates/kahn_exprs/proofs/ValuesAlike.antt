@@ -3,7 +3,7 @@ use Rattle.std.specs.Prelude.{◌≡◌, refl, ℕ, zero, suc, ◌+◌, ◌<◌,
 use Rattle.std.proofs.Common.{ap, sym, ◌∙◌, subst, arith}
 use Rattle.std.proofs.lemmas.Grind.{common_steps}
 use Rattle.ls_ast.specs.declared.tree.Expr.{Expr}
-use Rattle.ls_sig.specs.Places.{Place}
+use Rattle.ls_places.specs.Places.{Place}
 use Rattle.ls_sig.specs.declared.binder.Note.{Note}
 use Rattle.kahn_model.specs.declared.cell.Cell.{Cell}
 use Rattle.kahn_model.specs.Alike.{ArgAlike, ArgsAlike, RowAlike}

@@ -5,14 +5,14 @@ use Rattle.ls_ast.specs.declared.tree.Expr.{Expr, fold-Expr}
 use Rattle.ls_ast.specs.declared.tree.Form.{Form, fold-Form, map-Form, out-Form}
 use Rattle.ls_ast.specs.declared.tree.Form.TheOpen.{Form-F}
 use Rattle.ls_ops.specs.declared.kinds.Op.{Op}
-use Rattle.ls_sig.specs.Places.{Place}
+use Rattle.ls_places.specs.Places.{Place}
 use Rattle.ls_sig.specs.declared.binder.Binder.{Binder}
 use Rattle.ls_sig.specs.declared.binder.Binder.TheVariants as binder
 use Rattle.ls_sig.specs.declared.binder.Note.{Note}
 use Rattle.kahn_model.specs.Alarm
 use Rattle.kahn_model.specs.Alarm.{Heard, HeardForm, any_of}
 use Rattle.kahn_model.specs.Cells.{is_yes, say, values_in}
-use Rattle.kahn_model.specs.Clocks.{form_parts, is_function}
+use Rattle.ls_places.specs.Clocks.{form_parts, is_function}
 use Rattle.kahn_model.specs.Functions.{Arg}
 use Rattle.kahn_model.specs.Rows.{Row, both, either, know, know_all}
 use Rattle.kahn_model.specs.Table.{cell_in, written_row}

@@ -1,9 +1,9 @@
 -- Calls by rows that are written down.
 use Rattle.std.specs.Prelude.{ℕ, Bool, List, ◌∷◌, Option, Some, None, if◌then◌else◌, unwrap_or}
-use Rattle.ls_sig.specs.Places.{Place}
+use Rattle.ls_places.specs.Places.{Place}
 use Rattle.ls_sig.specs.declared.binder.Note.{Note}
 use Rattle.kahn_model.specs.declared.cell.Cell.{Cell}
-use Rattle.kahn_model.specs.Clocks.{is_function}
+use Rattle.ls_places.specs.Clocks.{is_function}
 use Rattle.kahn_model.specs.Functions.{Arg, stream, def, given, Around, Meaning, give_args, nowhere}
 use Rattle.kahn_model.specs.Rows.{Row}
 use Rattle.kahn_model.specs.Table.{cell_in, written_row}

@@ -1,6 +1,7 @@
 -- What is around a body, as the network has it: beyond the cells of a row nothing is known.
 use Rattle.std.specs.Prelude.{ℕ, ◌==◌, Bool, false, List, [], ◌∷◌, map, Option, Some, None, if◌then◌else◌}
-use Rattle.kahn_model.specs.Functions.{Arg, stream, def, given, Around}
+use Rattle.kahn_model.specs.declared.cell.Cell.{Cell}
+use Rattle.kahn_model.specs.Functions.{Arg, stream, def, given, arg_at, row_of, Around}
 use Rattle.kahn_model.specs.Rows.{Row}
 use Rattle.kahn_model.specs.Table.{cell_in}
 use Rattle.kahn_exprs.specs.declared.context.Argument.{Argument, fold-Argument}
@@ -29,6 +30,10 @@ arg_of = fold-Argument Arg arg_step
 
 abbrev pub args_of : List Argument → List Arg
 args_of = map {A = Argument} {B = Arg} arg_of
+
+-- the row of the parameter of this number
+abbrev pub arg_row : ℕ → List Argument → Row Cell
+arg_row m args = row_of (arg_at m (args_of args))
 
 abbrev pub around_of : Context → Around
 around_of c = record { active = cell_in c.active; again = cell_in c.again; clocks = clocks_of c.clocks; args = args_of c.args }

@@ -5,13 +5,13 @@ use Rattle.ls_terms.specs.declared.clocks.ClockTerm.{ClockTerm, fold-ClockTerm, 
 use Rattle.ls_terms.specs.declared.clocks.ClockTerm.TheOpen.{ClockTerm-F}
 use Rattle.ls_sig.specs.declared.binder.Note.{Note}
 use Rattle.kahn_model.specs.Functions.{Arg}
-use Rattle.kahn_model.specs.Search.{nth}
+use Rattle.ls_places.specs.Search.{nth}
 use Rattle.kahn_model.specs.Table.{written_row}
 use Rattle.kahn_exprs.specs.Context.{arg_of}
 use Rattle.kahn_exprs.specs.Streams.{look}
 use Rattle.ls_sig.specs.declared.binder.Binder.{Binder}
 use Rattle.ls_sig.specs.declared.binder.Binder.TheVariants as binder
-use Rattle.kahn_model.specs.declared.definition.Definition.{Definition}
+use Rattle.ls_places.specs.declared.definition.Definition.{Definition}
 use Rattle.kahn_exprs.specs.declared.body.Body.{Body}
 use Rattle.kahn_exprs.specs.declared.context.Argument.{Argument}
 use Rattle.kahn_exprs.specs.declared.context.Argument.TheVariants as argument

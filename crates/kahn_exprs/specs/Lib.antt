@@ -1,4 +1,5 @@
 pub mod Context
+pub mod Standing
 pub mod Body
 pub mod Memory
 pub mod Rules

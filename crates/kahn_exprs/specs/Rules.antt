@@ -3,14 +3,14 @@ use Rattle.std.specs.Prelude.{ℕ, Bool, List, [], ◌∷◌, map, Option, Some,
 use Rattle.ls_ast.specs.declared.tree.Case.{Case}
 use Rattle.ls_ast.specs.declared.tree.Expr.{Expr}
 use Rattle.ls_terms.specs.declared.clocks.ClockTerm.{ClockTerm}
-use Rattle.ls_sig.specs.Places.{Place}
+use Rattle.ls_places.specs.Places.{Place}
 use Rattle.ls_sig.specs.declared.binder.Note.{Note}
 use Rattle.kahn_model.specs.declared.cell.Cell.{Cell}
 use Rattle.kahn_model.specs.declared.cell.Cell.TheVariants.{Absent, Present}
 use Rattle.kahn_model.specs.declared.cell.Value.TheVariants as v
 use Rattle.kahn_model.specs.Cells.{after_first, at, is_yes, say, value_in}
 use Rattle.kahn_model.specs.Rows.{Row, either, know, know_all, previous}
-use Rattle.kahn_model.specs.Search.{case_value}
+use Rattle.kahn_model.specs.Choices.{case_value}
 use Rattle.kahn_model.specs.Table.{cell_in}
 use Rattle.kahn_model.specs.Values.{case_of, nil}
 use Rattle.kahn_exprs.specs.declared.body.Body.{Body}
@@ -60,7 +60,7 @@ init_at x y i = after_first (cell_in x i) (λ j. cell_in y i)
 
 module _ (b : Body) (p : Place) (note : Note) where
   abbrev pub before : ℕ → Option (Option ℕ)
-  before = previous (spec.on b note.ck) (spec.again b p)
+  before = previous (spec.on b note.ck) (spec.again_too b (spec.again b p) note.restarts)
 
   abbrev pub rule_cell : Rule → Row Cell
   rule_cell (rule.Leaf l) i = Some (Present (v.Leaf l))

@@ -2,10 +2,9 @@
 use Rattle.std.specs.Prelude.{ℕ, List, [], ◌∷◌, map, Option, Some, if◌then◌else◌}
 use Rattle.ls_ast.specs.declared.tree.Pat.{Pat}
 use Rattle.kahn_model.specs.declared.cell.Cell.{Cell}
-use Rattle.kahn_model.specs.declared.cell.Key.{Key}
-use Rattle.kahn_model.specs.declared.cell.Key.TheVariants as key
-use Rattle.kahn_model.specs.Functions.{Arg, stream, has_name, nowhere}
-use Rattle.ls_sig.specs.Patterns.{names_of}
+use Rattle.ls_places.specs.declared.definition.Key.TheVariants as key
+use Rattle.kahn_model.specs.Functions.{Arg, stream, nowhere}
+use Rattle.ls_places.specs.Patterns.{has_name, names_of}
 use Rattle.ls_sig.specs.declared.binder.Binder.{Binder}
 use Rattle.ls_sig.specs.declared.binder.Binder.TheVariants as binder
 use Rattle.kahn_exprs.specs.declared.body.Body.{Body}
@@ -14,11 +13,8 @@ use Rattle.kahn_exprs.specs.declared.context.Argument.TheOpen.{Argument-F}
 use Rattle.kahn_exprs.specs.Context.{arg_of}
 use Rattle.kahn_model.specs.Cells.{part}
 use Rattle.kahn_model.specs.Rows.{know}
-use Rattle.kahn_model.specs.Table.{Rows, cell_in, same_key, written_row}
-
-abbrev pub table_row : Rows → Key → List (Option Cell)
-table_row [] k = []
-table_row (r ∷ rows) k = if same_key r.0 k then r.1 else table_row rows k
+use Rattle.kahn_model.specs.Table.{cell_in, written_row}
+use Rattle.kahn_exprs.specs.Standing.{row as table_row}
 
 abbrev pub part_known : Pat → ℕ → Option Cell → Option Cell
 part_known p x c = know c (λ c. Some (part p x c))

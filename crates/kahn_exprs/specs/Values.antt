@@ -2,7 +2,7 @@
 use Rattle.std.specs.Prelude.{ℕ, List, [], map, Option, None}
 use Rattle.ls_ast.specs.declared.tree.Case.{Case}
 use Rattle.ls_ast.specs.declared.tree.Expr.{Expr}
-use Rattle.ls_sig.specs.Places.{Place}
+use Rattle.ls_places.specs.Places.{Place}
 use Rattle.ls_sig.specs.declared.binder.Binder.{Binder}
 use Rattle.ls_sig.specs.declared.binder.Binder.TheVariants as binder
 use Rattle.ls_sig.specs.declared.binder.Note.{Note}

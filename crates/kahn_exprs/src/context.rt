@@ -43,46 +43,43 @@ pub struct Context {
 }
 
 /// A copy of a row.
-pub fn copy_cells(cells: &[Option<Cell>], alloc: Global) -> Result<List<Option<Cell>>, NoMemory>
+pub fn copy_cells(alloc: Global, cells: &[Option<Cell>]) -> Result<List<Option<Cell>>, NoMemory>
     ensures { IfOk result (λ r. r ≡ cells.now) }
 {
     let mut done = List::new(alloc);
     for c in cells {
-        done.push(copy_known(c, alloc)?)?;
+        done.push(copy_known(alloc, c.as_ref())?)?;
     }
     Ok(done)
 }
 
 /// A copy of what stands for a parameter.
-pub fn copy_argument(arg: &Argument, alloc: Global) -> Result<Argument, NoMemory>
+pub fn copy_argument(alloc: Global, arg: &Argument) -> Result<Argument, NoMemory>
     ensures { IfOk result (λ r. r ≡ arg.now) }
 {
     match arg {
-        Argument::Stream(cells) => Ok(Argument::Stream(copy_cells(cells.as_slice(), alloc)?)),
+        Argument::Stream(cells) => Ok(Argument::Stream(copy_cells(alloc, cells.as_slice())?)),
         Argument::Function(k, rows) => { Ok(Argument::Function(*k, rows.copy(alloc)?)) }
         Argument::Pointwise(k) => Ok(Argument::Pointwise(*k)),
         Argument::Given(f, x) => Ok(Argument::Given(
-            Boxed::new(alloc, copy_argument(f.get(), alloc)?)?,
-            Boxed::new(alloc, copy_argument(x.get(), alloc)?)?,
+            Boxed::new(alloc, copy_argument(alloc, f.get())?)?,
+            Boxed::new(alloc, copy_argument(alloc, x.get())?)?,
         )),
     }
 }
 
 /// Copies of some arguments after those that are there.
 pub fn add_arguments(
+    alloc: Global,
     args: &[Argument],
     done: &mut List<Argument>,
-    alloc: Global,
 ) -> Result<(), NoMemory>
     ensures { OnOk result (done.new ≡ done.old ++ args.now) }
 {
-    match args {
-        [] => Ok(()),
-        [arg, rest @ ..] => {
-            done.push(copy_argument(arg, alloc)?)?;
-            add_arguments(rest, done, alloc)
-        }
+    for arg in args {
+        done.push(copy_argument(alloc, arg)?)?;
     }
+    Ok(())
 }
 
 /// The function of a function value without the arguments that it was given.
@@ -98,13 +95,13 @@ pub fn base(f: &Argument) -> &Argument
 }
 
 /// Copies of the arguments that a function value was given, the first one first.
-pub fn add_given(f: &Argument, done: &mut List<Argument>, alloc: Global) -> Result<(), NoMemory>
+pub fn add_given(alloc: Global, f: &Argument, done: &mut List<Argument>) -> Result<(), NoMemory>
     ensures { OnOk result (around.args_of done.new ≡ around.args_of done.old ++ own.given_to (around.arg_of f.now)) }
 {
     match f {
         Argument::Given(g, x) => {
-            add_given(g.get(), done, alloc)?;
-            done.push(copy_argument(x.get(), alloc)?)?;
+            add_given(alloc, g.get(), done)?;
+            done.push(copy_argument(alloc, x.get())?)?;
             Ok(())
         }
         Argument::Stream(_) => Ok(()),
@@ -114,14 +111,13 @@ pub fn add_given(f: &Argument, done: &mut List<Argument>, alloc: Global) -> Resu
 }
 
 /// A function value with more arguments.
-pub fn give(f: Argument, args: &[Argument], alloc: Global) -> Result<Argument, NoMemory>
+pub fn give(alloc: Global, f: Argument, args: &[Argument]) -> Result<Argument, NoMemory>
     ensures { IfOk result (λ r. around.arg_of r ≡ give_args (around.arg_of f) (around.args_of args.now)) }
 {
-    match args {
-        [] => Ok(f),
-        [arg, rest @ ..] => {
-            let x = Boxed::new(alloc, copy_argument(arg, alloc)?)?;
-            give(Argument::Given(Boxed::new(alloc, f)?, x), rest, alloc)
-        }
+    let mut more = f;
+    for arg in args {
+        let x = Boxed::new(alloc, copy_argument(alloc, arg)?)?;
+        more = Argument::Given(Boxed::new(alloc, more)?, x);
     }
+    Ok(more)
 }

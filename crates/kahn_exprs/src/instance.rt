@@ -3,16 +3,16 @@
 ghost use Rattle.std.specs.Prelude.{◌≡◌, ◌++◌, IfOk, OnOk, map};
 ghost use Rattle.kahn_exprs.specs.Context as around;
 ghost use Rattle.kahn_exprs.specs.Instance as own;
-ghost use Rattle.kahn_model.specs.Search as search;
+ghost use Rattle.ls_places.specs.Search as search;
 
 use crate::body::Body;
 use crate::context::Argument;
 use crate::rows::on_row;
 use crate::streams::look;
 use kahn_cells::search::nth;
-use kahn_model::Definition;
 use ls_ast::Expr;
 use ls_base::{List, NoMemory, NoteCopy};
+use ls_places::Definition;
 use ls_sig::{Binder, Note};
 use ls_terms::ClockTerm;
 use std::alloc::Global;
@@ -20,11 +20,11 @@ use std::alloc::Global;
 /// The rows of the clock variables of some clocks of a signature, where other clocks meet them.
 #[cycle(met)]
 fn add_all_met(
+    alloc: Global,
     body: &Body,
     signature: &[ClockTerm],
     all: &[ClockTerm],
     done: &mut List<(u32, List<Option<bool>>)>,
-    alloc: Global,
 ) -> Result<(), NoMemory>
     ensures { OnOk result (done.new ≡ done.old ++ own.rows_met body.now (own.pairs_all (map own.pairs signature.now) all.now)) }
 {
@@ -32,7 +32,7 @@ fn add_all_met(
     for ck in signature {
         match nth(all, j) {
             None => return Ok(()),
-            Some(t) => add_met(body, ck, t, done, alloc)?,
+            Some(t) => add_met(alloc, body, ck, t, done)?,
         }
         j += 1;
     }
@@ -42,18 +42,18 @@ fn add_all_met(
 /// The same of a clock.
 #[cycle(met)]
 fn add_met(
+    alloc: Global,
     body: &Body,
     signature: &ClockTerm,
     t: &ClockTerm,
     done: &mut List<(u32, List<Option<bool>>)>,
-    alloc: Global,
 ) -> Result<(), NoMemory>
     ensures { OnOk result (done.new ≡ done.old ++ own.rows_met body.now (own.pairs signature.now t.now)) }
 {
     match signature {
-        ClockTerm::Var(w) => done.push((*w, on_row(body, t, alloc)?)),
+        ClockTerm::Var(w) => done.push((*w, on_row(alloc, body, t)?)),
         ClockTerm::On(inner, _, _) => match t {
-            ClockTerm::On(below, _, _) => add_met(body, inner.get(), below.get(), done, alloc),
+            ClockTerm::On(below, _, _) => add_met(alloc, body, inner.get(), below.get(), done),
             ClockTerm::Var(_) => Ok(()),
             ClockTerm::Pointwise => Ok(()),
             ClockTerm::Arrow(_, _) => Ok(()),
@@ -61,8 +61,8 @@ fn add_met(
         ClockTerm::Pointwise => Ok(()),
         ClockTerm::Arrow(params, to) => match t {
             ClockTerm::Arrow(others, result) => {
-                add_all_met(body, params.as_slice(), others.as_slice(), done, alloc)?;
-                add_met(body, to.get(), result.get(), done, alloc)
+                add_all_met(alloc, body, params.as_slice(), others.as_slice(), done)?;
+                add_met(alloc, body, to.get(), result.get(), done)
             }
             ClockTerm::Var(_) => Ok(()),
             ClockTerm::On(_, _, _) => Ok(()),
@@ -73,23 +73,20 @@ fn add_met(
 
 /// Copies of some clocks after those that are there.
 pub fn add_clocks(
+    alloc: Global,
     all: &[ClockTerm],
     done: &mut List<ClockTerm>,
-    alloc: Global,
 ) -> Result<(), NoMemory>
     ensures { OnOk result (done.new ≡ done.old ++ all.now) }
 {
-    match all {
-        [] => Ok(()),
-        [ck, rest @ ..] => {
-            done.push(ck.copy(alloc)?)?;
-            add_clocks(rest, done, alloc)
-        }
+    for ck in all {
+        done.push(ck.copy(alloc)?)?;
     }
+    Ok(())
 }
 
 /// The clocks noted at some expressions, in order.
-pub fn clocks_noted(all: &[Expr<Note>], alloc: Global) -> Result<List<ClockTerm>, NoMemory>
+pub fn clocks_noted(alloc: Global, all: &[Expr<Note>]) -> Result<List<ClockTerm>, NoMemory>
     ensures { IfOk result (λ r. r ≡ own.clocks_noted all.now) }
 {
     let mut done = List::new(alloc);
@@ -100,21 +97,21 @@ pub fn clocks_noted(all: &[Expr<Note>], alloc: Global) -> Result<List<ClockTerm>
 }
 
 /// The clocks of the signature of a definition: of its parameters, and of its result.
-fn signature_of(d: &Definition, alloc: Global) -> Result<List<ClockTerm>, NoMemory>
+fn signature_of(alloc: Global, d: &Definition) -> Result<List<ClockTerm>, NoMemory>
     ensures { IfOk result (λ r. r ≡ own.signature_of d.now) }
 {
     let mut done = List::new(alloc);
-    add_clocks(d.clocks.as_slice(), &mut done, alloc)?;
+    add_clocks(alloc, d.clocks.as_slice(), &mut done)?;
     done.push(d.result.note.ck.copy(alloc)?)?;
     Ok(done)
 }
 
 /// The rows of the clock variables of a definition that is called or passed at these clocks.
 fn instance(
+    alloc: Global,
     body: &Body,
     k: u32,
     all: &[ClockTerm],
-    alloc: Global,
 ) -> Result<List<(u32, List<Option<bool>>)>, NoMemory>
     ensures { IfOk result (λ r. r ≡ own.instance body.now (search.nth body.now.defs.now k) all.now) }
 {
@@ -122,8 +119,8 @@ fn instance(
     match nth(body.defs, k as usize) {
         None => Ok(done),
         Some(d) => {
-            let signature = signature_of(d, alloc)?;
-            add_all_met(body, signature.as_slice(), all, &mut done, alloc)?;
+            let signature = signature_of(alloc, d.definition())?;
+            add_all_met(alloc, body, signature.as_slice(), all, &mut done)?;
             Ok(done)
         }
     }
@@ -131,11 +128,11 @@ fn instance(
 
 /// A definition that is called or passed at these clocks, the last of them its own.
 fn function(
+    alloc: Global,
     body: &Body,
     k: u32,
     clocks: List<ClockTerm>,
     ck: &ClockTerm,
-    alloc: Global,
 ) -> Result<Argument, NoMemory>
     ensures { IfOk result (λ r. r ≡ own.function body.now k clocks ck.now) }
 {
@@ -143,36 +140,36 @@ fn function(
     match ck {
         ClockTerm::Pointwise => Ok(Argument::Pointwise(k)),
         ClockTerm::Arrow(more, to) => {
-            add_clocks(more.as_slice(), &mut all, alloc)?;
+            add_clocks(alloc, more.as_slice(), &mut all)?;
             all.push(to.get().copy(alloc)?)?;
-            Ok(Argument::Function(k, instance(body, k, all.as_slice(), alloc)?))
+            Ok(Argument::Function(k, instance(alloc, body, k, all.as_slice())?))
         }
         ClockTerm::Var(_) => {
             all.push(ck.copy(alloc)?)?;
-            Ok(Argument::Function(k, instance(body, k, all.as_slice(), alloc)?))
+            Ok(Argument::Function(k, instance(alloc, body, k, all.as_slice())?))
         }
         ClockTerm::On(_, _, _) => {
             all.push(ck.copy(alloc)?)?;
-            Ok(Argument::Function(k, instance(body, k, all.as_slice(), alloc)?))
+            Ok(Argument::Function(k, instance(alloc, body, k, all.as_slice())?))
         }
     }
 }
 
 /// The function that a call's head names, or what stands for it.
 pub fn head(
+    alloc: Global,
     body: &Body,
     note: &Note,
     x: u32,
     clocks: List<ClockTerm>,
-    alloc: Global,
 ) -> Result<Argument, NoMemory>
     ensures { IfOk result (λ r. around.arg_of r ≡ own.head body.now note.now x clocks) }
 {
     match note.bound {
-        Binder::Def(k) => function(body, k, clocks, &note.ck, alloc),
-        Binder::Var(k) => look(body, Binder::Var(k), x, alloc),
-        Binder::Param(k) => look(body, Binder::Param(k), x, alloc),
-        Binder::Nothing => look(body, Binder::Nothing, x, alloc),
-        Binder::Case(t, k) => look(body, Binder::Case(t, k), x, alloc),
+        Binder::Def(k) => function(alloc, body, k, clocks, &note.ck),
+        Binder::Var(k) => look(alloc, body, Binder::Var(k), x),
+        Binder::Param(k) => look(alloc, body, Binder::Param(k), x),
+        Binder::Nothing => look(alloc, body, Binder::Nothing, x),
+        Binder::Case(t, k) => look(alloc, body, Binder::Case(t, k), x),
     }
 }

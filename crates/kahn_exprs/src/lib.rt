@@ -12,13 +12,17 @@ mod memory;
 mod rows;
 mod rules;
 mod streams;
+mod table;
 
-pub use alarms::{Alarms, alarm_row};
-pub use body::{Body, active, again, cell_in, on, param_cell, read, truth_in};
+pub use alarms::{Alarms, alarm_row, yes_row};
+pub use body::{
+    Body, active, again, again_too, cell_in, in_arms, on, param_cell, read, stream_cell, truth_in,
+};
 pub use calls::Calls;
-pub use context::{Argument, Clocks, Context, copy_cells};
+pub use context::{Argument, Clocks, Context, copy_argument, copy_cells};
 pub use expressions::row;
-pub use memory::{Pace, last, mode_here, previous, variable_here};
-
-#[cfg(test)]
-mod tests;
+pub use memory::{
+    Pace, last, last_bound, mode_here, previous, restarts, signal_here, variable_here,
+};
+pub use rows::absent_row;
+pub use table::{Rows, known};

@@ -9,21 +9,22 @@ ghost use Rattle.kahn_model.specs.Table as rows;
 
 use crate::body::{Body, active, again, cell_in, on, stream_cell};
 use crate::context::Argument;
+use crate::table::known;
 use kahn_cells::cells::{at, either, say_case};
 use kahn_model::Cell;
 use ls_base::{List, NoMemory};
-use ls_sig::Frame;
+use ls_places::Frame;
 use ls_terms::ClockTerm;
 use std::alloc::Global;
 
 /// Where a clock is on.
 #[tactic(auto, using(crate::proofs::Written::one_more))]
-pub fn on_row(body: &Body, ck: &ClockTerm, alloc: Global) -> Result<List<Option<bool>>, NoMemory>
+pub fn on_row(alloc: Global, body: &Body, ck: &ClockTerm) -> Result<List<Option<bool>>, NoMemory>
     ensures { IfOk result (λ r. r ≡ rows.written_row body.now.lines 0 (spec.on body.now ck.now)) }
 {
     let mut done = List::new(alloc);
     for i in 0..body.lines {
-        done.push(on(body, ck, i as usize, alloc)?)?;
+        done.push(on(body, ck, i as usize))?;
     }
     Ok(done)
 }
@@ -31,15 +32,15 @@ pub fn on_row(body: &Body, ck: &ClockTerm, alloc: Global) -> Result<List<Option<
 /// Where a place is active.
 #[tactic(auto, using(crate::proofs::Written::one_more))]
 pub fn active_row(
+    alloc: Global,
     body: &Body,
     place: &[Frame],
-    alloc: Global,
 ) -> Result<List<Option<bool>>, NoMemory>
     ensures { IfOk result (λ r. r ≡ rows.written_row body.now.lines 0 (spec.active body.now place.now)) }
 {
     let mut done = List::new(alloc);
     for i in 0..body.lines {
-        done.push(active(body, place, i as usize, alloc)?)?;
+        done.push(active(body, place, i as usize))?;
     }
     Ok(done)
 }
@@ -50,82 +51,78 @@ fn restart(
     place: &[Frame],
     every: &Option<List<Option<Cell>>>,
     i: usize,
-    alloc: Global,
-) -> Result<Option<bool>, NoMemory>
-    ensures { IfOk result (λ r. r ≡ own.restart body.now place.now every.now i) }
+) -> Option<bool>
+    ensures { result ≡ own.restart body.now place.now every.now i }
 {
-    let now = again(body, place, i, alloc)?;
+    let now = again(body, place, i);
     match every {
-        None => Ok(now),
-        Some(cells) => {
-            let c = cell_in(cells.as_slice(), i, alloc)?;
-            Ok(either(now, say_case(1, &c)))
-        }
+        None => now,
+        Some(cells) => either(now, say_case(1, known(cells.as_slice(), i))),
     }
 }
 
 /// Where a place restarts, or what is called from it by `every`.
 #[tactic(auto, using(crate::proofs::Written::one_more))]
 pub fn restart_row(
+    alloc: Global,
     body: &Body,
     place: &[Frame],
     every: &Option<List<Option<Cell>>>,
-    alloc: Global,
 ) -> Result<List<Option<bool>>, NoMemory>
     ensures { IfOk result (λ r. r ≡ rows.written_row body.now.lines 0 (own.restart body.now place.now every.now)) }
 {
     let mut done = List::new(alloc);
     for i in 0..body.lines {
-        done.push(restart(body, place, every, i as usize, alloc)?)?;
+        done.push(restart(body, place, every, i as usize))?;
     }
     Ok(done)
 }
 
 fn clocked_cell(
+    alloc: Global,
     body: &Body,
     ck: &ClockTerm,
     cells: &[Option<Cell>],
     i: usize,
-    alloc: Global,
 ) -> Result<Option<Cell>, NoMemory>
     ensures { IfOk result (λ r. r ≡ own.clocked body.now ck.now cells.now i) }
 {
-    let c = cell_in(cells, i, alloc)?;
-    Ok(at(on(body, ck, i, alloc)?, c))
+    let c = cell_in(alloc, cells, i)?;
+    Ok(at(on(body, ck, i), c))
 }
 
 /// A row on its clock.
 #[tactic(auto, using(crate::proofs::Written::one_more))]
 pub fn clocked_row(
+    alloc: Global,
     body: &Body,
     ck: &ClockTerm,
     cells: &[Option<Cell>],
-    alloc: Global,
 ) -> Result<List<Option<Cell>>, NoMemory>
     ensures { IfOk result (λ r. r ≡ rows.written_row body.now.lines 0 (own.clocked body.now ck.now cells.now)) }
 {
     let mut done = List::new(alloc);
     for i in 0..body.lines {
-        done.push(clocked_cell(body, ck, cells, i as usize, alloc)?)?;
+        done.push(clocked_cell(alloc, body, ck, cells, i as usize)?)?;
     }
     Ok(done)
 }
 
 /// The row of what stands for a parameter: a function is absent.
 #[tactic(auto, using(crate::proofs::Written::one_more))]
-pub fn stream_row(lines: u32, arg: &Argument, alloc: Global) -> Result<List<Option<Cell>>, NoMemory>
+pub fn stream_row(alloc: Global, lines: u32, arg: &Argument) -> Result<List<Option<Cell>>, NoMemory>
     ensures { IfOk result (λ r. r ≡ rows.written_row lines 0 (row_of (around.arg_of arg.now))) }
 {
     let mut done = List::new(alloc);
     for i in 0..lines {
-        done.push(stream_cell(arg, i as usize, alloc)?)?;
+        done.push(stream_cell(alloc, arg, i as usize)?)?;
     }
     Ok(done)
 }
 
 /// A row that is absent.
 #[tactic(auto, using(crate::proofs::Written::one_more))]
-pub fn absent_row(lines: u32, alloc: Global) -> Result<List<Option<Cell>>, NoMemory>
+pub fn absent_row(alloc: Global, lines: u32) -> Result<List<Option<Cell>>, NoMemory>
     ensures { IfOk result (λ r. r ≡ rows.written_row lines 0 nowhere) }
 {
     let mut done = List::new(alloc);

@@ -5,20 +5,21 @@ use Rattle.ls_ast.specs.declared.tree.Case.{Case}
 use Rattle.ls_ast.specs.declared.tree.Expr.{Expr-F, fold-Expr}
 use Rattle.ls_ast.specs.declared.tree.Form.{map-Form}
 use Rattle.ls_ast.specs.declared.tree.Form.TheOpen.{Form-F}
-use Rattle.ls_sig.specs.Places.{Place}
+use Rattle.ls_places.specs.Places.{Place}
 use Rattle.ls_sig.specs.declared.binder.Binder.{Binder}
 use Rattle.ls_sig.specs.declared.binder.Binder.TheVariants as b
 use Rattle.ls_sig.specs.declared.binder.Note.{Note}
 use Rattle.kahn_model.specs.declared.cell.Cell.{Cell}
-use Rattle.kahn_model.specs.declared.definition.Definition.{Definition}
+use Rattle.ls_places.specs.declared.definition.Definition.{Definition}
 use Rattle.kahn_model.specs.Rows.{Row, IsKnown, know, know_all}
 use Rattle.kahn_model.specs.Values.{alarm}
 use Rattle.kahn_model.specs.Cells.{is_yes, say, values_in}
-use Rattle.kahn_model.specs.Clocks.{choice_parts, form_parts, is_function, option_part}
+use Rattle.ls_places.specs.Clocks.{choice_parts, form_parts, is_function, option_part}
 use Rattle.kahn_model.specs.Functions.{Arg, Around, Meaning, Said, args_said, cells_at, clocks_said}
 use Rattle.kahn_model.specs.Fullness.{All}
 use Rattle.kahn_model.specs.Causality.{RowTo, AroundTo}
-use Rattle.kahn_model.specs.Search.{E}
+use Rattle.ls_places.specs.Search.{E}
+use Rattle.ls_places.specs.declared.places.Whole.{Whole}
 use Rattle.kahn_model.specs.Turn
 use Rattle.kahn_model.specs.Turn.{Table}
 use Rattle.kahn_model.specs.Alarm
@@ -229,12 +230,19 @@ module _ (cases : ℕ → Option ℕ) (defs : List Definition) (call : Meaning) 
         joined_known [] p q = q
         joined_known (x ∷ ps) p q = (p.0, joined_known ps p.1 q)
 
+    abbrev restarts' : Note → Needs
+    restarts' n = now_only (Reads.restart_keys d shapes n.restarts)
+
     parts_known : (y : Form-F Note TwoHF TwoH) (n : Note) (i : ℕ) → i ≤ top → By i (fr (rights y) n).needs → All IsKnown (parts_alarm i (form_parts (lefts y)))
     parts_known (Form-F.Op op args) n i t m = list_known i t args m
     parts_known (Form-F.Tuple all) n i t m = list_known i t all m
-    parts_known (Form-F.Pre p) n i t m = (p.2.1 i t (by_earlier Ok T i p.1.needs m), tt)
-    parts_known (Form-F.Fby x y) n i t m = (x.2.1 i t (by_left Ok T i x.1.needs (earlier y.1.needs) m), (y.2.1 i t (by_earlier Ok T i y.1.needs (by_right Ok T i x.1.needs (earlier y.1.needs) m)), tt))
-    parts_known (Form-F.Init x y) n i t m = (x.2.1 i t (by_left Ok T i x.1.needs y.1.needs m), (y.2.1 i t (by_right Ok T i x.1.needs y.1.needs m), tt))
+    parts_known (Form-F.Pre p) n i t m = (p.2.1 i t (by_earlier Ok T i p.1.needs (by_right Ok T i (restarts' n) (earlier p.1.needs) m)), tt)
+    parts_known (Form-F.Fby x y) n i t m =
+        let k = by_right Ok T i (restarts' n) (together x.1.needs (earlier y.1.needs)) m in
+        (x.2.1 i t (by_left Ok T i x.1.needs (earlier y.1.needs) k), (y.2.1 i t (by_earlier Ok T i y.1.needs (by_right Ok T i x.1.needs (earlier y.1.needs) k)), tt))
+    parts_known (Form-F.Init x y) n i t m =
+        let k = by_right Ok T i (restarts' n) (together x.1.needs y.1.needs) m in
+        (x.2.1 i t (by_left Ok T i x.1.needs y.1.needs k), (y.2.1 i t (by_right Ok T i x.1.needs y.1.needs k), tt))
     parts_known (Form-F.When p x k) n i t m = (p.2.1 i t m, tt)
     parts_known (Form-F.Merge x choices) n i t m = choices_known i t choices
         (by_right Ok T i (now_only (bound_keys n.bound)) (all_needs (choice_parts (in_choices {X = TwoH} {Y = Reading} (λ p. p.1) choices))) m)
@@ -295,8 +303,8 @@ module _ (cases : ℕ → Option ℕ) (defs : List Definition) (call : Meaning) 
       (λ bound j l n. last_bound_known cases defs call Ok d a T top around calls bound j (omega (arith, l, t)) n) e).1 i (omega arith)
       (by_right Ok T i here more m)
 
-  pub any_alarm_known : (all : List (E × Place)) (i : ℕ) → i ≤ top → All (λ (ep : E × Place). MetBy Ok T i (Reads.needs_at d args ep.1 ep.0)) all
+  pub any_alarm_known : (all : List (Whole Note)) (i : ℕ) → i ≤ top → All (λ (w : Whole Note). MetBy Ok T i (Reads.needs_at d args w.place w.expr)) all
       → IsKnown (Alarm.any_alarm cases defs call alarmed d a T all i)
   any_alarm_known [] i t q = some_known false
-  any_alarm_known (ep ∷ all) i t q = either_known (Alarm.alarm_at cases defs call alarmed d a T ep.1 ep.0 i) (Alarm.any_alarm cases defs call alarmed d a T all i)
-      (alarm_at_known ep.1 ep.0 i t q.0) (any_alarm_known all i t q.1)
+  any_alarm_known (w ∷ all) i t q = either_known (Alarm.alarm_at cases defs call alarmed d a T w.place w.expr i) (Alarm.any_alarm cases defs call alarmed d a T all i)
+      (alarm_at_known w.place w.expr i t q.0) (any_alarm_known all i t q.1)

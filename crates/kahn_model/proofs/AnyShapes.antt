@@ -4,30 +4,30 @@ use Rattle.std.proofs.Common.{ap, ap₂, ◌∙◌, subst}
 use Rattle.ls_ast.specs.declared.tree.Case.{Case}
 use Rattle.ls_ast.specs.declared.tree.Expr.{Expr-F}
 use Rattle.ls_ast.specs.declared.tree.Form.TheOpen.{Form-F}
-use Rattle.ls_sig.specs.Patterns.{joined}
-use Rattle.ls_sig.specs.Places.{Place, InnerArm, arms}
+use Rattle.ls_places.specs.Patterns.{joined}
+use Rattle.ls_places.specs.Places.{Place, InnerArm, arms}
 use Rattle.ls_sig.specs.declared.binder.Binder.{Binder}
 use Rattle.ls_sig.specs.declared.binder.Binder.TheVariants as b
 use Rattle.ls_sig.specs.declared.binder.Note.{Note}
-use Rattle.ls_sig.specs.declared.places.Frame.TheVariants as frame
-use Rattle.ls_sig.specs.declared.places.Named.{Named}
-use Rattle.ls_sig.specs.declared.places.Named.TheVariants as named
-use Rattle.ls_sig.specs.declared.places.Right.{Right}
-use Rattle.ls_sig.specs.declared.places.Right.TheVariants as rhs
-use Rattle.ls_sig.specs.declared.places.Site.{Site}
-use Rattle.ls_sig.specs.declared.places.Start.{Start}
-use Rattle.ls_sig.specs.declared.places.Transition.{Transition}
-use Rattle.ls_sig.specs.declared.places.Variable.{Variable}
+use Rattle.ls_places.specs.declared.places.Named.{Named}
+use Rattle.ls_places.specs.declared.places.Named.TheVariants as named
+use Rattle.ls_places.specs.declared.places.Right.{Right}
+use Rattle.ls_places.specs.declared.places.Right.TheVariants as rhs
+use Rattle.ls_places.specs.declared.places.Site.{Site}
+use Rattle.ls_places.specs.declared.places.Start.{Start}
+use Rattle.ls_places.specs.declared.places.Transition.{Transition}
+use Rattle.ls_places.specs.declared.places.Variable.{Variable}
 use Rattle.ls_terms.specs.declared.clocks.ClockTerm.{ClockTerm, fold-ClockTerm}
 use Rattle.ls_terms.specs.declared.clocks.ClockTerm.TheOpen.{ClockTerm-F}
-use Rattle.kahn_model.specs.declared.cell.Key.{Key}
-use Rattle.kahn_model.specs.declared.cell.Key.TheVariants as key
-use Rattle.kahn_model.specs.declared.definition.Definition.{Definition}
-use Rattle.kahn_model.specs.Clocks.{bare, choice_parts}
+use Rattle.ls_places.specs.declared.definition.Key.{Key}
+use Rattle.ls_places.specs.declared.definition.Key.TheVariants as key
+use Rattle.ls_places.specs.declared.definition.Definition.{Definition}
+use Rattle.ls_places.specs.Clocks.{bare, choice_parts}
 use Rattle.kahn_model.specs.Fullness.{All, HasKey}
 use Rattle.kahn_model.specs.Causality.{AllCausal, Causal, InTable, Nests, NestsBody, Sound, SoundBody, body_calls}
-use Rattle.kahn_model.specs.Search
-use Rattle.kahn_model.specs.Search.{E, nth, sites_of, start_of, mode_clock}
+use Rattle.ls_places.specs.Search
+use Rattle.ls_places.specs.Search.{E, mode_clock, nth, param_clock, signal_arms, signal_at, sites_of, start_of, tested_outside, whole_of}
+use Rattle.ls_places.specs.declared.places.Whole.{Whole}
 use Rattle.kahn_model.specs.Table.{row_keys}
 use Rattle.kahn_model.specs.Reads
 use Rattle.kahn_model.specs.Reads.{Call, Shape, Needs, Formed, Reading, together, earlier, nothing, now_only, all_needs, every_needs, clocks_read, bound_keys, around_keys, arm_keys}
@@ -67,17 +67,28 @@ module _ (d : Definition) (ss tt' : List Shape) where
   all_keys_same [] = refl
   all_keys_same (ck ∷ cks) = ap₂ (λ xs ys. xs ++ ys) (keys_same ck) (all_keys_same cks)
 
-  right_clock_same : (s : Site Note) (r : Right Note) → Reads.right_clock_keys d ss s r ≡ Reads.right_clock_keys d tt' s r
-  right_clock_same s (rhs.Part p e) = keys_same (bare (length s.inner) e.note.ck)
-  right_clock_same s (rhs.Whole e) = keys_same (bare (length s.inner) e.note.ck)
+  right_clock_same : (s : Site) (r : Right) → Reads.right_clock_keys d ss s r ≡ Reads.right_clock_keys d tt' s r
+  right_clock_same s (rhs.Part p k) = keys_same (bare (length s.inner) (whole_of d k).expr.note.ck)
+  right_clock_same s (rhs.Whole k) = keys_same (bare (length s.inner) (whole_of d k).expr.note.ck)
   right_clock_same s (rhs.Pattern x p) = refl
 
-  site_clock_same : (s : Option (Site Note)) → Reads.site_clock_keys d ss s ≡ Reads.site_clock_keys d tt' s
+  site_clock_same : (s : Option Site) → Reads.site_clock_keys d ss s ≡ Reads.site_clock_keys d tt' s
   site_clock_same None = refl
   site_clock_same (Some s) = right_clock_same s s.right
 
   variable_clock_same : (x : ℕ) → Reads.variable_clock_keys d ss x ≡ Reads.variable_clock_keys d tt' x
   variable_clock_same x = site_clock_same (nth (sites_of x d.places.sites) 0)
+
+  some_clock_same : (o : Option ClockTerm) → Reads.some_clock_keys d ss o ≡ Reads.some_clock_keys d tt' o
+  some_clock_same None = refl
+  some_clock_same (Some ck) = keys_same ck
+
+  signal_clock_same : (x : ℕ) (o : Option ℕ) → Reads.signal_clock_keys d ss x o ≡ Reads.signal_clock_keys d tt' x o
+  signal_clock_same x (Some k) = variable_clock_same k
+  signal_clock_same x None = some_clock_same (param_clock x d.params d.clocks)
+
+  signal_here_same : (x : ℕ) (p : List InnerArm) → Reads.signal_here_keys d ss x p ≡ Reads.signal_here_keys d tt' x p
+  signal_here_same x p = ap (λ ks. ks ++ arm_keys (signal_arms d x p)) (signal_clock_same x (signal_at d x p))
 
   -- ---- expressions
 
@@ -164,6 +175,9 @@ module _ (d : Definition) (ss tt' : List Shape) where
   abbrev er' : Expr-F Note (Note → Formed) Reading → Reading
   er' = Reads.expr_reading d tt'
 
+  same_delayed : (n : Note) (r r' : Needs) → Same r r' → Same (Reads.delayed d ss n r) (Reads.delayed d tt' n r')
+  same_delayed n r r' p = (ap (λ xs. Reads.restart_keys d ss n.restarts ++ xs) p.0, p.1)
+
   layer : (y : Form-F Note TwoF Two) → RF (fr (Related.lefts fr er fr' er' RF R y)) (fr' (Related.rights fr er fr' er' RF R y))
   layer (Form-F.Leaf l) n = (refl, refl)
   layer (Form-F.Case x) n = (refl, refl)
@@ -172,9 +186,9 @@ module _ (d : Definition) (ss tt' : List Shape) where
   layer (Form-F.Asked x) n = (refl, refl)
   layer (Form-F.Op o args) n = all_same args
   layer (Form-F.Tuple all) n = all_same all
-  layer (Form-F.Pre e) n = same_earlier e.0.needs e.1.needs e.2.1
-  layer (Form-F.Fby x y) n = same_together x.0.needs x.1.needs (earlier y.0.needs) (earlier y.1.needs) x.2.1 (same_earlier y.0.needs y.1.needs y.2.1)
-  layer (Form-F.Init x y) n = same_together x.0.needs x.1.needs y.0.needs y.1.needs x.2.1 y.2.1
+  layer (Form-F.Pre e) n = same_delayed n (earlier e.0.needs) (earlier e.1.needs) (same_earlier e.0.needs e.1.needs e.2.1)
+  layer (Form-F.Fby x y) n = same_delayed n (together x.0.needs (earlier y.0.needs)) (together x.1.needs (earlier y.1.needs)) (same_together x.0.needs x.1.needs (earlier y.0.needs) (earlier y.1.needs) x.2.1 (same_earlier y.0.needs y.1.needs y.2.1))
+  layer (Form-F.Init x y) n = same_delayed n (together x.0.needs y.0.needs) (together x.1.needs y.1.needs) (same_together x.0.needs x.1.needs y.0.needs y.1.needs x.2.1 y.2.1)
   layer (Form-F.When e x k) n = e.2.1
   layer (Form-F.Merge x choices) n = same_together (now_only (bound_keys n.bound)) (now_only (bound_keys n.bound))
       (all_needs (choice_parts (in_choices {X = Two} {Y = Reading} (λ p. p.0) choices))) (all_needs (choice_parts (in_choices {X = Two} {Y = Reading} (λ p. p.1) choices))) (refl, refl) (choices_same choices)
@@ -194,11 +208,14 @@ module _ (d : Definition) (ss tt' : List Shape) where
   at_same : (p : Place) (e : E) → Same (Reads.needs_at d ss p e) (Reads.needs_at d tt' p e)
   at_same p e = same_together (now_only (around_keys p)) (now_only (around_keys p)) (Reads.reading d ss e).needs (Reads.reading d tt' e).needs (refl, refl) (reading_same e).1
 
+  whole_same : (k : ℕ) → Same (Reads.whole_needs d ss k) (Reads.whole_needs d tt' k)
+  whole_same k = at_same (whole_of d k).place (whole_of d k).expr
+
   -- ---- rows
 
-  right_same : (p : Place) (r : Right Note) → Same (Reads.right_needs d ss p r) (Reads.right_needs d tt' p r)
-  right_same p (rhs.Part pat e) = at_same p e
-  right_same p (rhs.Whole e) = at_same p e
+  right_same : (p : Place) (r : Right) → Same (Reads.right_needs d ss p r) (Reads.right_needs d tt' p r)
+  right_same p (rhs.Part pat k) = whole_same k
+  right_same p (rhs.Whole k) = whole_same k
   right_same p (rhs.Pattern y pat) = (refl, refl)
 
   site_same : (inner : List InnerArm) (r r' o o' : Needs) → Same r r' → Same o o' → Same (Reads.site_needs d ss inner r o) (Reads.site_needs d tt' inner r' o')
@@ -206,7 +223,7 @@ module _ (d : Definition) (ss tt' : List Shape) where
   site_same (mj ∷ inner) r r' o o' p q = same_together (together (now_only (arm_keys (mj ∷ inner))) r) (together (now_only (arm_keys (mj ∷ inner))) r') o o'
       (same_together (now_only (arm_keys (mj ∷ inner))) (now_only (arm_keys (mj ∷ inner))) r r' (refl, refl) p) q
 
-  sites_same : (o o' : Needs) → Same o o' → (all : List (Site Note)) → Same (Reads.sites_needs d ss o all) (Reads.sites_needs d tt' o' all)
+  sites_same : (o o' : Needs) → Same o o' → (all : List Site) → Same (Reads.sites_needs d ss o all) (Reads.sites_needs d tt' o' all)
   sites_same o o' q [] = q
   sites_same o o' q (s ∷ rest) = site_same s.inner (Reads.right_needs d ss s.place s.right) (Reads.right_needs d tt' s.place s.right)
       (Reads.sites_needs d ss o rest) (Reads.sites_needs d tt' o' rest) (right_same s.place s.right) (sites_same o o' q rest)
@@ -224,53 +241,60 @@ module _ (d : Definition) (ss tt' : List Shape) where
       (Reads.sites_needs d ss (Reads.otherwise_needs d ss x w) (sites_of x d.places.sites)) (Reads.sites_needs d tt' (Reads.otherwise_needs d tt' x w) (sites_of x d.places.sites))
       (variable_clock_same x, refl) (sites_same (Reads.otherwise_needs d ss x w) (Reads.otherwise_needs d tt' x w) (otherwise_same x w) (sites_of x d.places.sites))
 
-  start_same : (s : Option (Start Note)) → Same (Reads.start_needs d ss s) (Reads.start_needs d tt' s)
+  start_same : (s : Option Start) → Same (Reads.start_needs d ss s) (Reads.start_needs d tt' s)
   start_same None = (refl, refl)
-  start_same (Some s) = at_same s.place s.right
+  start_same (Some s) = whole_same s.right
 
   variable_start_same : (w : Option Variable) → Same (Reads.variable_start_needs d ss w) (Reads.variable_start_needs d tt' w)
   variable_start_same None = (refl, refl)
   variable_start_same (Some w) = start_same (start_of w d.places.starts)
 
-  mode_same_of : (o : Option ClockTerm) (p : Place) → Reads.mode_keys_of d ss o p ≡ Reads.mode_keys_of d tt' o p
-  mode_same_of None p = refl
-  mode_same_of (Some ck) p = keys_same ck
+  mode_same_of : (o : Option ClockTerm) (x : Option ℕ) (p : Place) → Reads.mode_keys_of d ss o x p ≡ Reads.mode_keys_of d tt' o x p
+  mode_same_of (Some ck) x p = keys_same ck
+  mode_same_of None (Some x) p = signal_here_same x (arms p)
+  mode_same_of None None p = refl
 
   mode_same : (m : ℕ) (p : Place) → Reads.mode_keys d ss m p ≡ Reads.mode_keys d tt' m p
-  mode_same m p = mode_same_of (mode_clock m d.places.exprs) p
+  mode_same m p = mode_same_of (mode_clock m d.places.exprs) (tested_outside d m) p
 
-  transitions_same : (p : Place) (gs : List (Transition Note)) → Same (Reads.transitions_needs d ss p gs) (Reads.transitions_needs d tt' p gs)
-  transitions_same p [] = (refl, refl)
-  transitions_same p (g ∷ gs) = same_together (Reads.needs_at d ss p g.cond) (Reads.needs_at d tt' p g.cond) (Reads.transitions_needs d ss p gs) (Reads.transitions_needs d tt' p gs) (at_same p g.cond) (transitions_same p gs)
+  present_same : (xs : List ℕ) (p : Place) → Reads.present_keys d ss xs p ≡ Reads.present_keys d tt' xs p
+  present_same [] p = refl
+  present_same (x ∷ xs) p = signal_here_same x (arms p)
 
-  guards_same : (m : ℕ) (p : Place) (s : ℕ) (states : List (ℕ × List (Transition Note))) → Same (Reads.guards_needs d ss m p s states) (Reads.guards_needs d tt' m p s states)
-  guards_same m p s [] = (refl, refl)
-  guards_same m p s (t ∷ ts) = same_together (Reads.transitions_needs d ss (p ++ frame.Arm m s ∷ []) t.1) (Reads.transitions_needs d tt' (p ++ frame.Arm m s ∷ []) t.1)
-      (Reads.guards_needs d ss m p (suc s) ts) (Reads.guards_needs d tt' m p (suc s) ts) (transitions_same (p ++ frame.Arm m s ∷ []) t.1) (guards_same m p (suc s) ts)
+  transitions_same : (gs : List Transition) → Same (Reads.transitions_needs d ss gs) (Reads.transitions_needs d tt' gs)
+  transitions_same [] = (refl, refl)
+  transitions_same (g ∷ gs) = same_together (Reads.whole_needs d ss g.cond) (Reads.whole_needs d tt' g.cond) (Reads.transitions_needs d ss gs) (Reads.transitions_needs d tt' gs) (whole_same g.cond) (transitions_same gs)
+
+  guards_same : (states : List (ℕ × List Transition)) → Same (Reads.guards_needs d ss states) (Reads.guards_needs d tt' states)
+  guards_same [] = (refl, refl)
+  guards_same (t ∷ ts) = same_together (Reads.transitions_needs d ss t.1) (Reads.transitions_needs d tt' t.1)
+      (Reads.guards_needs d ss ts) (Reads.guards_needs d tt' ts) (transitions_same t.1) (guards_same ts)
 
   signals_same : (p : Place) (xs : List ℕ) → joined (map (Reads.signal_keys d ss p) xs) ≡ joined (map (Reads.signal_keys d tt' p) xs)
   signals_same p [] = refl
   signals_same p (x ∷ xs) = ap (λ ks. Reads.signal_keys d ss p x ++ ks) (signals_same p xs)
 
-  name_same : (m : ℕ) (o : Option (Named Note)) → Same (Reads.name_needs d ss m o) (Reads.name_needs d tt' m o)
+  name_same : (m : ℕ) (o : Option Named) → Same (Reads.name_needs d ss m o) (Reads.name_needs d tt' m o)
   name_same m None = (refl, refl)
   name_same m (Some (named.Clock x)) = (refl, refl)
-  name_same m (Some (named.Match e all p)) = same_together (now_only (Reads.clock_keys d ss e.note.ck)) (now_only (Reads.clock_keys d tt' e.note.ck))
-      (Reads.needs_at d ss p e) (Reads.needs_at d tt' p e) (keys_same e.note.ck, refl) (at_same p e)
-  name_same m (Some (named.Present xs p)) = (ap (λ ks. arm_keys (arms p) ++ ks) (signals_same p xs), refl)
+  name_same m (Some (named.Match k all p)) =
+      let ck : ClockTerm = (whole_of d k).expr.note.ck in
+      same_together (now_only (Reads.clock_keys d ss ck)) (now_only (Reads.clock_keys d tt' ck))
+      (Reads.whole_needs d ss k) (Reads.whole_needs d tt' k) (keys_same ck, refl) (whole_same k)
+  name_same m (Some (named.Present xs p)) = (ap₂ (λ ks ls. ks ++ ls) (present_same xs p) (signals_same p xs), refl)
   name_same m (Some (named.Active states p)) = same_together (now_only (Reads.mode_keys d ss m p ++ key.Name (m + 1) ∷ [])) (now_only (Reads.mode_keys d tt' m p ++ key.Name (m + 1) ∷ []))
-      (Reads.guards_needs d ss (m + 1) p 0 states) (Reads.guards_needs d tt' (m + 1) p 0 states) (ap (λ ks. ks ++ key.Name (m + 1) ∷ []) (mode_same m p), refl) (guards_same (m + 1) p 0 states)
+      (Reads.guards_needs d ss states) (Reads.guards_needs d tt' states) (ap (λ ks. ks ++ key.Name (m + 1) ∷ []) (mode_same m p), refl) (guards_same states)
   name_same m (Some (named.Tested states p)) =
       let row : Needs = now_only (key.Name (m - 1) ∷ []) in
-      let gs : Needs = Reads.guards_needs d ss (m - 1) p 0 states in
-      let gs' : Needs = Reads.guards_needs d tt' (m - 1) p 0 states in
+      let gs : Needs = Reads.guards_needs d ss states in
+      let gs' : Needs = Reads.guards_needs d tt' states in
       same_together (now_only (Reads.mode_keys d ss (m - 1) p ++ around_keys p)) (now_only (Reads.mode_keys d tt' (m - 1) p ++ around_keys p))
       (earlier (together row gs)) (earlier (together row gs')) (ap (λ ks. ks ++ around_keys p) (mode_same (m - 1) p), refl)
-      (same_earlier (together row gs) (together row gs') (same_together row row gs gs' (refl, refl) (guards_same (m - 1) p 0 states)))
+      (same_earlier (together row gs) (together row gs') (same_together row row gs gs' (refl, refl) (guards_same states)))
 
-  reset_same : (o : Option (E × Place)) → Same (Reads.reset_needs d ss o) (Reads.reset_needs d tt' o)
+  reset_same : (o : Option ℕ) → Same (Reads.reset_needs d ss o) (Reads.reset_needs d tt' o)
   reset_same None = (refl, refl)
-  reset_same (Some ep) = at_same ep.1 ep.0
+  reset_same (Some k) = whole_same k
 
   key_same : (k : Key) → Same (Reads.key_needs d ss k) (Reads.key_needs d tt' k)
   key_same (key.Var x) = variable_same x (nth d.places.vars x)
@@ -286,9 +310,9 @@ module _ (d : Definition) (ss tt' : List Shape) where
     before = subst (All (λ l. HasKey l (row_keys d))) p.1 h.before;
   }
 
-  all_in_table : (all : List (E × Place)) → All (λ (ep : E × Place). InTable d (Reads.needs_at d ss ep.1 ep.0)) all → All (λ (ep : E × Place). InTable d (Reads.needs_at d tt' ep.1 ep.0)) all
+  all_in_table : (all : List (Whole Note)) → All (λ (w : Whole Note). InTable d (Reads.needs_at d ss w.place w.expr)) all → All (λ (w : Whole Note). InTable d (Reads.needs_at d tt' w.place w.expr)) all
   all_in_table [] q = tt
-  all_in_table (ep ∷ all) q = (in_table_same (Reads.needs_at d ss ep.1 ep.0) (Reads.needs_at d tt' ep.1 ep.0) (at_same ep.1 ep.0) q.0, all_in_table all q.1)
+  all_in_table (w ∷ all) q = (in_table_same (Reads.needs_at d ss w.place w.expr) (Reads.needs_at d tt' w.place w.expr) (at_same w.place w.expr) q.0, all_in_table all q.1)
 
   pub causal_same : Causal d ss → Causal d tt'
   causal_same c = record {

@@ -5,7 +5,7 @@ use Rattle.ls_ast.specs.declared.tree.Case.{Case}
 use Rattle.ls_ast.specs.declared.tree.Expr.{Expr-F, fold-Expr}
 use Rattle.ls_ast.specs.declared.tree.Form.TheOpen.{Form-F}
 use Rattle.ls_ast.specs.declared.tree.Pat.{Pat}
-use Rattle.ls_sig.specs.Patterns.{names_of, joined}
+use Rattle.ls_places.specs.Patterns.{names_of, joined}
 use Rattle.ls_sig.specs.declared.binder.Binder.{Binder}
 use Rattle.ls_sig.specs.declared.binder.Binder.TheVariants as b
 use Rattle.ls_sig.specs.declared.binder.Note.{Note}
@@ -13,19 +13,22 @@ use Rattle.ls_terms.specs.declared.clocks.ClockTerm.{ClockTerm}
 use Rattle.ls_value.specs.declared.leaf.Leaf.TheVariants as leaf
 use Rattle.kahn_model.specs.declared.cell.Cell.{Cell}
 use Rattle.kahn_model.specs.declared.cell.Cell.TheVariants.{Absent, Present}
-use Rattle.kahn_model.specs.declared.cell.Key.{Key}
+use Rattle.ls_places.specs.declared.definition.Key.{Key}
+use Rattle.ls_places.specs.declared.definition.Key.TheVariants as key
 use Rattle.kahn_model.specs.declared.cell.Value.TheVariants as v
-use Rattle.kahn_model.specs.declared.definition.Definition.{Definition}
-use Rattle.kahn_model.specs.Rows.{Row, IsKnown, know, know_all, previous}
+use Rattle.ls_places.specs.declared.definition.Definition.{Definition}
+use Rattle.kahn_model.specs.Rows.{either, Row, IsKnown, know, know_all, previous}
 use Rattle.kahn_model.specs.Values.{case_of, eval, nil, tuple}
 use Rattle.kahn_model.specs.Cells.{after_first, emitted, is_yes, say, value_in, values_in}
-use Rattle.kahn_model.specs.Clocks.{choice_parts, is_function}
+use Rattle.ls_places.specs.Clocks.{choice_parts, is_function}
 use Rattle.kahn_model.specs.Functions
-use Rattle.kahn_model.specs.Functions.{Arg, stream, def, given, Around, Meaning, Said, args_said, cells_at, clocks_said, has_name, param_in, part_arg, row_of}
+use Rattle.kahn_model.specs.Functions.{Arg, stream, def, given, Around, Meaning, Said, args_said, cells_at, clocks_said, param_in, part_arg, row_of}
+use Rattle.ls_places.specs.Patterns.{has_name}
 use Rattle.kahn_model.specs.Fullness.{All}
 use Rattle.kahn_model.specs.Causality.{RowTo, ArgAt, ArgTo, AroundTo}
-use Rattle.kahn_model.specs.Search
-use Rattle.kahn_model.specs.Search.{E, nth}
+use Rattle.ls_places.specs.Search
+use Rattle.kahn_model.specs.Choices
+use Rattle.ls_places.specs.Search.{E, nth}
 use Rattle.kahn_model.specs.Turn
 use Rattle.kahn_model.specs.Turn.{Table}
 use Rattle.kahn_model.specs.Reads
@@ -213,11 +216,23 @@ module _ (cases : ℕ → Option ℕ) (defs : List Definition) (call : Meaning) 
     merged_known cs i t m None = some_known (Present nil)
     merged_known cs i t m (Some k) = branch_known k cs i t m
 
-    delay_known : (n : Note) (i : ℕ) (c : Option Cell) (r : Row Cell) → i ≤ top → OnTo n.ck i → IsKnown c → ((j : ℕ) → j < i → IsKnown (r j)) → IsKnown (know (previous (on' n.ck) rst i) (after_first c r))
-    delay_known n i c r t o p q =
-        let e = previous_known (on' n.ck) rst i (λ j l. o j (omega (arith, l))) (λ j l. rst_known j (omega (arith, l, t))) in
+    -- so are the restarts of a delay, with the variables that its note lists
+    too_known : (row : Row Bool) (xs : List ℕ) (i : ℕ) → IsKnown (row i) → All (Kn' i) (Reads.restart_keys d shapes xs) → IsKnown (Turn.again_too cases defs call d a T row xs i)
+    too_known row [] i p q = p
+    too_known row (x ∷ xs) i p q = too_known (λ j. either (row j) (say is_yes (T (key.Var x) j))) xs i
+        (either_known (row i) (say is_yes (T (key.Var x) i)) p (say_known cases defs call d a T top around shapes is_yes (T (key.Var x) i) q.0)) q.1
+
+    delay_known : (n : Note) (i : ℕ) (c : Option Cell) (r : Row Cell) → i ≤ top → OnTo n.ck i → Met' i (now_only (Reads.restart_keys d shapes n.restarts)) → IsKnown c → ((j : ℕ) → j < i → IsKnown (r j))
+        → IsKnown (know (previous (on' n.ck) (Turn.again_too cases defs call d a T rst n.restarts) i) (after_first c r))
+    delay_known n i c r t o m p q =
+        let rst' : Row Bool = Turn.again_too cases defs call d a T rst n.restarts in
+        let e = previous_known (on' n.ck) rst' i (λ j l. o j (omega (arith, l)))
+        (λ j l. too_known rst n.restarts j (rst_known j (omega (arith, l, t))) (met_to Ok T i j (now_only (Reads.restart_keys d shapes n.restarts)) l m).is_now) in
         let y = after_first_known i c r e.0 e.2 p q in
         (y.0, ap (λ z. know z (after_first c r)) e.1 ∙ y.1)
+
+    abbrev restarts' : Note → Needs
+    restarts' n = now_only (Reads.restart_keys d shapes n.restarts)
 
     was_known : (p : TwoS) (i : ℕ) → i ≤ top → Met' i (earlier p.1.needs) → (j : ℕ) → j < i → IsKnown (row_of p.0.arg j)
     was_known p i t m j l = is_known p j (omega (arith, l, t)) (met_earlier Ok T i j p.1.needs l m)
@@ -307,7 +322,7 @@ module _ (cases : ℕ → Option ℕ) (defs : List Definition) (call : Meaning) 
     module _ (last_known : (bound : Binder) (i : ℕ) → i ≤ top → Met' i (Reads.last_needs d shapes bound) → IsKnown (Turn.last_bound cases defs call d a T bound i)) where
       pub layer : (y : Form-F Note TwoF TwoS) → HoldsF (fs (Lefts y)) (fr (Rights y))
       layer (Form-F.Leaf l) n = (refl, λ i t o m. some_known (Present (v.Leaf l)))
-      layer (Form-F.Case x) n = (refl, λ i t o m. some_known (Present (Search.case_value n.bound)))
+      layer (Form-F.Case x) n = (refl, λ i t o m. some_known (Present (Choices.case_value n.bound)))
       layer (Form-F.Var x) n = (used_shape n n.bound x.0, λ i t o m. used_holds n n.bound x.0 i t o m)
       layer (Form-F.Last x) n = (refl, λ i t o m. last_known n.bound i t m)
       layer (Form-F.Asked x) n = (
@@ -325,16 +340,20 @@ module _ (cases : ℕ → Option ℕ) (defs : List Definition) (call : Meaning) 
         λ i t o m. know_known (know_all (cells_at i (ls args))) (λ cs. Some (Present (tuple (values_in cs))))
             (know_all_known (cells_at i (ls args)) (all_cells args i t m)) (λ cs z. some_known (Present (tuple (values_in cs)))),
       )
-      layer (Form-F.Pre p) n = (refl, λ i t o m. delay_known n i (Some (Present nil)) (row_of p.0.arg) t o (some_known (Present nil)) (was_known p i t m))
+      layer (Form-F.Pre p) n = (refl, λ i t o m. delay_known n i (Some (Present nil)) (row_of p.0.arg) t o (met_left Ok T i (restarts' n) (earlier p.1.needs) m) (some_known (Present nil)) (was_known p i t (met_right Ok T i (restarts' n) (earlier p.1.needs) m)))
       layer (Form-F.Fby x y) n = (
         refl,
-        λ i t o m. delay_known n i (row_of x.0.arg i) (row_of y.0.arg) t o
-            (is_known x i t (met_left Ok T i x.1.needs (earlier y.1.needs) m)) (was_known y i t (met_right Ok T i x.1.needs (earlier y.1.needs) m)),
+        λ i t o m.
+            let k = met_right Ok T i (restarts' n) (together x.1.needs (earlier y.1.needs)) m in
+            delay_known n i (row_of x.0.arg i) (row_of y.0.arg) t o (met_left Ok T i (restarts' n) (together x.1.needs (earlier y.1.needs)) m)
+            (is_known x i t (met_left Ok T i x.1.needs (earlier y.1.needs) k)) (was_known y i t (met_right Ok T i x.1.needs (earlier y.1.needs) k)),
       )
       layer (Form-F.Init x y) n = (
         refl,
-        λ i t o m. delay_known n i (row_of x.0.arg i) (λ j. row_of y.0.arg i) t o
-            (is_known x i t (met_left Ok T i x.1.needs y.1.needs m)) (λ j l. is_known y i t (met_right Ok T i x.1.needs y.1.needs m)),
+        λ i t o m.
+            let k = met_right Ok T i (restarts' n) (together x.1.needs y.1.needs) m in
+            delay_known n i (row_of x.0.arg i) (λ j. row_of y.0.arg i) t o (met_left Ok T i (restarts' n) (together x.1.needs y.1.needs) m)
+            (is_known x i t (met_left Ok T i x.1.needs y.1.needs k)) (λ j l. is_known y i t (met_right Ok T i x.1.needs y.1.needs k)),
       )
       layer (Form-F.When p x k) n = (refl, λ i t o m. is_known p i t m)
       layer (Form-F.Merge x choices) n = (

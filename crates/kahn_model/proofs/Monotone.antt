@@ -4,46 +4,48 @@ use Rattle.std.specs.Prelude.{◌≡◌, refl, ℕ, zero, suc, ◌+◌, ◌-◌,
 use Rattle.std.proofs.Common.{ap, ap₂, sym, ◌∙◌, subst}
 use Rattle.kahn_model.proofs.Below.{AllBelow, below_refl, both_below, either_below, know_all_below, know_below, none_below}
 use Rattle.kahn_model.proofs.Related.{in_choices, related}
-use Rattle.kahn_model.specs.Cells.{after_first, at, emitted, is_case, is_here, is_yes, part, restarts, say, value_in, values_in}
-use Rattle.kahn_model.specs.Clocks.{bare, is_function, meets, meets_all}
-use Rattle.kahn_model.specs.Functions.{Arg, Around, Meaning, Said, arg_at, args_said, cells_at, clocks_said, def, given, has_name, nowhere, param_in, part_arg, row_of, stream}
+use Rattle.kahn_model.specs.Cells.{after_first, at, emitted, is_case, is_yes, part, restarts, say, value_in, values_in}
+use Rattle.ls_places.specs.Clocks.{bare, is_function, meets, meets_all}
+use Rattle.kahn_model.specs.Functions.{Arg, Around, Meaning, Said, arg_at, args_said, cells_at, clocks_said, def, given, nowhere, param_in, part_arg, row_of, stream}
+use Rattle.ls_places.specs.Patterns.{has_name}
 use Rattle.kahn_model.proofs.Within.{ArgIn, ArgsIn, AroundIn, ClocksIn, MeaningIn, RowIn, TableIn, delay_below}
-use Rattle.kahn_model.specs.Rows.{Below, Row, either, know, know_all, previous}
-use Rattle.kahn_model.specs.Search.{nth, signal_in, sites_of, start_of}
-use Rattle.kahn_model.specs.Search.{E}
+use Rattle.kahn_model.specs.Rows.{Below, Row, both, either, know, know_all, previous}
+use Rattle.ls_places.specs.Search.{nth, param_clock, signal_arms, signal_at, sites_of, start_of, whole_of}
+use Rattle.ls_places.specs.Search.{E}
 use Rattle.kahn_model.specs.Turn.{Table}
 use Rattle.kahn_model.specs.Values.{case_of, eval, nil, tuple}
 use Rattle.kahn_model.specs.declared.cell.Cell.{Cell}
 use Rattle.kahn_model.specs.declared.cell.Cell.TheVariants.{Absent, Chosen, Present, Silent}
 use Rattle.kahn_model.specs.declared.cell.Reach.{Reach}
 use Rattle.kahn_model.specs.declared.cell.Reach.TheVariants.{Elsewhere, Here, NoArm}
-use Rattle.kahn_model.specs.declared.definition.Definition.{Definition}
+use Rattle.ls_places.specs.declared.definition.Definition.{Definition}
 use Rattle.ls_ast.specs.declared.tree.Case.{Case}
 use Rattle.ls_ast.specs.declared.tree.Expr.{Expr-F, fold-Expr}
 use Rattle.ls_ast.specs.declared.tree.Form.TheOpen.{Form-F}
 use Rattle.ls_ast.specs.declared.tree.Pat.{Pat}
-use Rattle.ls_sig.specs.Patterns.{names_of}
-use Rattle.ls_sig.specs.Places.{InnerArm, Place, arms}
+use Rattle.ls_places.specs.Patterns.{names_of}
+use Rattle.ls_places.specs.Places.{InnerArm, Place, arms}
 use Rattle.ls_sig.specs.declared.binder.Binder.{Binder}
 use Rattle.ls_sig.specs.declared.binder.Note.{Note}
-use Rattle.ls_sig.specs.declared.places.Named.{Named}
-use Rattle.ls_sig.specs.declared.places.Right.{Right}
-use Rattle.ls_sig.specs.declared.places.Site.{Site}
-use Rattle.ls_sig.specs.declared.places.Start.{Start}
-use Rattle.ls_sig.specs.declared.places.Transition.{Transition}
-use Rattle.ls_sig.specs.declared.places.Variable.{Variable}
+use Rattle.ls_places.specs.declared.places.Named.{Named}
+use Rattle.ls_places.specs.declared.places.Right.{Right}
+use Rattle.ls_places.specs.declared.places.Site.{Site}
+use Rattle.ls_places.specs.declared.places.Start.{Start}
+use Rattle.ls_places.specs.declared.places.Transition.{Transition}
+use Rattle.ls_places.specs.declared.places.Variable.{Variable}
 use Rattle.ls_terms.specs.declared.clocks.ClockTerm.{ClockTerm, fold-ClockTerm, fold-roll-ClockTerm, ind-ClockTerm, map-ClockTerm, out-ClockTerm, roll-ClockTerm}
 use Rattle.ls_terms.specs.declared.clocks.ClockTerm.TheOpen.{ClockTerm-F}
 use Rattle.kahn_model.specs.Functions
 use Rattle.kahn_model.proofs.Related
-use Rattle.kahn_model.specs.Search
+use Rattle.ls_places.specs.Search
+use Rattle.kahn_model.specs.Choices
 use Rattle.kahn_model.specs.Turn
 use Rattle.ls_sig.specs.declared.binder.Binder.TheVariants as b
-use Rattle.ls_sig.specs.declared.places.Frame.TheVariants as frame
-use Rattle.kahn_model.specs.declared.cell.Key.TheVariants as key
+use Rattle.ls_places.specs.declared.places.Frame.TheVariants as frame
+use Rattle.ls_places.specs.declared.definition.Key.TheVariants as key
 use Rattle.ls_value.specs.declared.leaf.Leaf.TheVariants as leaf
-use Rattle.ls_sig.specs.declared.places.Named.TheVariants as named
-use Rattle.ls_sig.specs.declared.places.Right.TheVariants as rhs
+use Rattle.ls_places.specs.declared.places.Named.TheVariants as named
+use Rattle.ls_places.specs.declared.places.Right.TheVariants as rhs
 use Rattle.kahn_model.specs.declared.cell.Value.TheVariants as v
 
 pub if_rel : {A : Type 0} (R : A → A → Type 0) (t : Bool) (x x' y y' : A) → R x x' → R y y' → R (if t then x else y) (if t then x' else y')
@@ -134,7 +136,12 @@ module _ (In : ℕ → Type 0) (down : (i : ℕ) → In (suc i) → In i) where
     pub again_below : (p : Place) → RowIn In (Turn.again cases defs call d a T p) (Turn.again cases defs call' d a' T' p)
     again_below p = again_from_below a.again a'.again p ab.again
 
-    named_below : (n : Option (Named Note)) (m : ℕ) → RowIn In (Turn.named_row cases defs call d a T n m) (Turn.named_row cases defs call' d a' T' n m)
+    too_below : (r r' : Row Bool) (xs : List ℕ) → RowIn In r r' → RowIn In (Turn.again_too cases defs call d a T r xs) (Turn.again_too cases defs call' d a' T' r' xs)
+    too_below r r' [] q = q
+    too_below r r' (x ∷ xs) q = too_below (λ i. either (r i) (say is_yes (T (key.Var x) i))) (λ i. either (r' i) (say is_yes (T' (key.Var x) i))) xs
+        (λ i h. either_below (r i) (r' i) (say is_yes (T (key.Var x) i)) (say is_yes (T' (key.Var x) i)) (q i h) (say_below is_yes (T (key.Var x) i) (T' (key.Var x) i) (tb (key.Var x) i h)))
+
+    named_below : (n : Option Named) (m : ℕ) → RowIn In (Turn.named_row cases defs call d a T n m) (Turn.named_row cases defs call' d a' T' n m)
     named_below (Some (named.Clock x)) m = tb (key.Var x)
     named_below (Some (named.Match e all p)) m = tb (key.Name m)
     named_below (Some (named.Present xs p)) m = tb (key.Name m)
@@ -186,19 +193,38 @@ module _ (In : ℕ → Type 0) (down : (i : ℕ) → In (suc i) → In i) where
     look_below (b.Def k) x = λ i h x e. e
     look_below (b.Case t k) x = λ i h x e. e
 
-    right_here_below : (s : Site Note) (r : Right Note) → RowIn In (Turn.right_here cases defs call d a T s r) (Turn.right_here cases defs call' d a' T' s r)
-    right_here_below s (rhs.Part p e) = on_below (bare (length s.inner) e.note.ck)
-    right_here_below s (rhs.Whole e) = on_below (bare (length s.inner) e.note.ck)
+    right_here_below : (s : Site) (r : Right) → RowIn In (Turn.right_here cases defs call d a T s r) (Turn.right_here cases defs call' d a' T' s r)
+    right_here_below s (rhs.Part p k) = on_below (bare (length s.inner) (whole_of d k).expr.note.ck)
+    right_here_below s (rhs.Whole k) = on_below (bare (length s.inner) (whole_of d k).expr.note.ck)
     right_here_below s (rhs.Pattern x p) = active_below s.place
 
-    variable_here_at_below : (s : Option (Site Note)) → RowIn In (Turn.variable_here_at cases defs call d a T s) (Turn.variable_here_at cases defs call' d a' T' s)
+    variable_here_at_below : (s : Option Site) → RowIn In (Turn.variable_here_at cases defs call d a T s) (Turn.variable_here_at cases defs call' d a' T' s)
     variable_here_at_below None = λ i h x e. e
     variable_here_at_below (Some s) = right_here_below s s.right
 
     variable_here_below : (x : ℕ) → RowIn In (Turn.variable_here cases defs call d a T x) (Turn.variable_here cases defs call' d a' T' x)
     variable_here_below x = variable_here_at_below (nth (sites_of x d.places.sites) 0)
 
-    start_row_below : (x : ℕ) (s : Option (Start Note)) → RowIn In (Turn.start_row cases defs call d a T x s) (Turn.start_row cases defs call' d a' T' x s)
+    where_on_below : (o : Option ClockTerm) → RowIn In (Turn.where_on cases defs call d a T o) (Turn.where_on cases defs call' d a' T' o)
+    where_on_below None = λ i h x e. e
+    where_on_below (Some ck) = on_below ck
+
+    in_arms_below : (r r' : Row Bool) (p : List InnerArm) → RowIn In r r'
+        → RowIn In (Turn.in_arms cases defs call d a T r p) (Turn.in_arms cases defs call' d a' T' r' p)
+    in_arms_below r r' [] q = q
+    in_arms_below r r' (mj ∷ p) q = in_arms_below (λ i. both (r i) (say (is_case mj.1) (T (key.Name mj.0) i))) (λ i. both (r' i) (say (is_case mj.1) (T' (key.Name mj.0) i))) p
+        (λ i h. both_below (r i) (r' i) (say (is_case mj.1) (T (key.Name mj.0) i)) (say (is_case mj.1) (T' (key.Name mj.0) i)) (q i h)
+        (say_below (is_case mj.1) (T (key.Name mj.0) i) (T' (key.Name mj.0) i) (tb (key.Name mj.0) i h)))
+
+    signal_clock_below : (x : ℕ) (o : Option ℕ) → RowIn In (Turn.signal_clock cases defs call d a T x o) (Turn.signal_clock cases defs call' d a' T' x o)
+    signal_clock_below x (Some k) = variable_here_below k
+    signal_clock_below x None = where_on_below (param_clock x d.params d.clocks)
+
+    signal_here_below : (x : ℕ) (p : List InnerArm) → RowIn In (Turn.signal_here cases defs call d a T x p) (Turn.signal_here cases defs call' d a' T' x p)
+    signal_here_below x p = in_arms_below (Turn.signal_clock cases defs call d a T x (signal_at d x p)) (Turn.signal_clock cases defs call' d a' T' x (signal_at d x p))
+        (signal_arms d x p) (signal_clock_below x (signal_at d x p))
+
+    start_row_below : (x : ℕ) (s : Option Start) → RowIn In (Turn.start_row cases defs call d a T x s) (Turn.start_row cases defs call' d a' T' x s)
     start_row_below x None = λ i h. below_refl (Some (Present nil))
     start_row_below x (Some s) = tb (key.Start x)
 
@@ -217,13 +243,9 @@ module _ (In : ℕ → Type 0) (down : (i : ℕ) → In (suc i) → In i) where
     last_bound_below (b.Var x) = last_below x
     last_bound_below _ = λ i h x e. e
 
-    instance_row_below : (o : Option ClockTerm) → RowIn In (Turn.instance_row cases defs call d a T o) (Turn.instance_row cases defs call' d a' T' o)
-    instance_row_below None = λ i h x e. e
-    instance_row_below (Some ck) = on_below ck
-
     instance_below : (e : Option Definition) (cks : List ClockTerm) (ck : ClockTerm) (w : ℕ) → RowIn In (Turn.instance_of cases defs call d a T e cks ck w) (Turn.instance_of cases defs call' d a' T' e cks ck w)
     instance_below None cks ck w = λ i h x e. e
-    instance_below (Some e) cks ck w = instance_row_below (meets_all (map meets (e.clocks ++ e.result.note.ck ∷ [])) (cks ++ ck ∷ []) w)
+    instance_below (Some e) cks ck w = where_on_below (meets_all (map meets (e.clocks ++ e.result.note.ck ∷ [])) (cks ++ ck ∷ []) w)
 
     clocks_at_below : (k : ℕ) (cks : List ClockTerm) (ck : ClockTerm) (o : ClockTerm-F ClockTerm) → ClocksIn In (Turn.clocks_at cases defs call d a T k cks ck o) (Turn.clocks_at cases defs call' d a' T' k cks ck o)
     clocks_at_below k cks ck ClockTerm-F.Pointwise = tt
@@ -281,22 +303,22 @@ module _ (In : ℕ → Type 0) (down : (i : ℕ) → In (suc i) → In i) where
     used_below act act' rst rst' n b.Nothing x p q = look_below b.Nothing x
     used_below act act' rst rst' n (b.Case t k) x p q = look_below (b.Case t k) x
 
-    abbrev Choices : Type 0
-    Choices = List (Case × Said)
+    abbrev Branches : Type 0
+    Branches = List (Case × Said)
 
-    abbrev ChoicesBelow : Choices → Choices → Type 0
+    abbrev ChoicesBelow : Branches → Branches → Type 0
     ChoicesBelow [] [] = Unit {0}
     ChoicesBelow (x ∷ xs) (y ∷ ys) = ((x.0 ≡ y.0) × SaidBelow x.1 y.1) × ChoicesBelow xs ys
     ChoicesBelow _ _ = ⊥
 
-    branch_below : (k : ℕ) (xs ys : Choices) → ChoicesBelow xs ys → RowIn In (Turn.branch cases defs call d a T k xs) (Turn.branch cases defs call' d a' T' k ys)
+    branch_below : (k : ℕ) (xs ys : Branches) → ChoicesBelow xs ys → RowIn In (Turn.branch cases defs call d a T k xs) (Turn.branch cases defs call' d a' T' k ys)
     branch_below k [] [] q = λ i h. below_refl (Some Absent)
     branch_below k (x ∷ xs) (y ∷ ys) q = subst (λ c. RowIn In (Turn.branch cases defs call d a T k (x ∷ xs)) (Turn.branch cases defs call' d a' T' k ((c, y.1) ∷ ys))) q.0.0
         (if_rel (RowIn In) (unwrap_or (option_map (λ j. Search.same_number j k) (Turn.case_number cases defs call d a T x.0)) false) (row_of x.1.arg) (row_of y.1.arg)
         (Turn.branch cases defs call d a T k xs) (Turn.branch cases defs call' d a' T' k ys) (row_below x.1.arg y.1.arg q.0.1.1) (branch_below k xs ys q.1))
     branch_below k _ _ q = absurd q
 
-    merged_below : (xs ys : Choices) → ChoicesBelow xs ys → (i : ℕ) → In i → (o : Option ℕ) → Below (Turn.merged_case cases defs call d a T xs i o) (Turn.merged_case cases defs call' d a' T' ys i o)
+    merged_below : (xs ys : Branches) → ChoicesBelow xs ys → (i : ℕ) → In i → (o : Option ℕ) → Below (Turn.merged_case cases defs call d a T xs i o) (Turn.merged_case cases defs call' d a' T' ys i o)
     merged_below xs ys q i h None = below_refl (Some (Present nil))
     merged_below xs ys q i h (Some k) = branch_below k xs ys q i h
 
@@ -348,8 +370,10 @@ module _ (In : ℕ → Type 0) (down : (i : ℕ) → In (suc i) → In i) where
       Rights = Related.rights fs es fs' es' RelF SaidBelow
 
       delay : (n : Note) (i : ℕ) → In i → (c c' : Option Cell) (r r' : Row Cell) → Below c c' → ((j : ℕ) → In j → Below (r j) (r' j))
-          → Below (know (previous (Turn.on cases defs call d a T n.ck) rst i) (after_first c r)) (know (previous (Turn.on cases defs call' d a' T' n.ck) rst' i) (after_first c' r'))
-      delay n i h c c' r r' p q = delay_below In down (Turn.on cases defs call d a T n.ck) (Turn.on cases defs call' d a' T' n.ck) rst rst' (after_first c r) (after_first c' r') (on_below n.ck) rstb i h p q
+          → Below (know (previous (Turn.on cases defs call d a T n.ck) (Turn.again_too cases defs call d a T rst n.restarts) i) (after_first c r))
+          (know (previous (Turn.on cases defs call' d a' T' n.ck) (Turn.again_too cases defs call' d a' T' rst' n.restarts) i) (after_first c' r'))
+      delay n i h c c' r r' p q = delay_below In down (Turn.on cases defs call d a T n.ck) (Turn.on cases defs call' d a' T' n.ck)
+          (Turn.again_too cases defs call d a T rst n.restarts) (Turn.again_too cases defs call' d a' T' rst' n.restarts) (after_first c r) (after_first c' r') (on_below n.ck) (too_below rst rst' n.restarts rstb) i h p q
 
       call_layer : (n : Note) (x : ℕ) (args : List TwoS) (s t : Option Said) → EveryBelow s t
           → ArgIn In (Turn.called cases defs call d a T act rst n (Turn.head_of cases defs call d a T n.bound n.ck x (clocks_said (map {A = TwoS} {B = Said} (λ p. p.0) args))) (map {A = TwoS} {B = Said} (λ p. p.0) args) s)
@@ -364,7 +388,7 @@ module _ (In : ℕ → Type 0) (down : (i : ℕ) → In (suc i) → In i) where
 
       pub layer : (y : Form-F Note TwoF TwoS) → RelF (fs (Lefts y)) (fs' (Rights y))
       layer (Form-F.Leaf l) n = λ i h. below_refl (Some (Present (v.Leaf l)))
-      layer (Form-F.Case x) n = λ i h. below_refl (Some (Present (Search.case_value n.bound)))
+      layer (Form-F.Case x) n = λ i h. below_refl (Some (Present (Choices.case_value n.bound)))
       layer (Form-F.Var x) n = used_below act act' rst rst' n n.bound x.0 actb rstb
       layer (Form-F.Last x) n = last_bound_below n.bound
       layer (Form-F.Asked x) n = λ i h. know_below (row_of (Turn.look cases defs call d a T n.bound x.0) i) (row_of (Turn.look cases defs call' d a' T' n.bound x.0) i)
@@ -395,7 +419,10 @@ module _ (In : ℕ → Type 0) (down : (i : ℕ) → In (suc i) → In i) where
         (fold-Expr Note (Note → Arg) Said (Turn.form_step cases defs call' d a' T' (Turn.active cases defs call' d a' T' p) (Turn.again cases defs call' d a' T' p)) (Turn.expr_step cases defs call' d a' T') e).arg
         (said_below (Turn.active cases defs call d a T p) (Turn.active cases defs call' d a' T' p) (Turn.again cases defs call d a T p) (Turn.again cases defs call' d a' T' p) (active_below p) (again_below p) e).1
 
-    reach_case_below : (j : ℕ) (m m' : Option Reach) → Below m m' → (c : Cell) → Below (Search.reach_case j m c) (Search.reach_case j m' c)
+    whole_below : (k : ℕ) → RowIn In (Turn.whole cases defs call d a T k) (Turn.whole cases defs call' d a' T' k)
+    whole_below k = cell_below (whole_of d k).place (whole_of d k).expr
+
+    reach_case_below : (j : ℕ) (m m' : Option Reach) → Below m m' → (c : Cell) → Below (Choices.reach_case j m c) (Choices.reach_case j m' c)
     reach_case_below j m m' p (Chosen None restart) = below_refl (Some NoArm)
     reach_case_below j m m' p (Chosen (Some k) restart) = if_rel Below (Search.same_number k j) m m' (Some Elsewhere) (Some Elsewhere) p (below_refl (Some Elsewhere))
     reach_case_below j m m' p Absent = below_refl (Some Elsewhere)
@@ -405,7 +432,7 @@ module _ (In : ℕ → Type 0) (down : (i : ℕ) → In (suc i) → In i) where
     reach_below : (inner : List InnerArm) → RowIn In (Turn.reach cases defs call d a T inner) (Turn.reach cases defs call' d a' T' inner)
     reach_below [] = λ i h. below_refl (Some Here)
     reach_below (mj ∷ rest) = λ i h. know_below (T (key.Name mj.0) i) (T' (key.Name mj.0) i)
-        (Search.reach_case mj.1 (Turn.reach cases defs call d a T rest i)) (Search.reach_case mj.1 (Turn.reach cases defs call' d a' T' rest i)) (tb (key.Name mj.0) i h)
+        (Choices.reach_case mj.1 (Turn.reach cases defs call d a T rest i)) (Choices.reach_case mj.1 (Turn.reach cases defs call' d a' T' rest i)) (tb (key.Name mj.0) i h)
         (reach_case_below mj.1 (Turn.reach cases defs call d a T rest i) (Turn.reach cases defs call' d a' T' rest i) (reach_below rest i h))
 
     signal_at_below : (x : ℕ) (o : Option ℕ) → RowIn In (Turn.signal_row_at cases defs call d a T x o) (Turn.signal_row_at cases defs call' d a' T' x o)
@@ -413,25 +440,25 @@ module _ (In : ℕ → Type 0) (down : (i : ℕ) → In (suc i) → In i) where
     signal_at_below x None = row_below (param_in x d.params a.args) (param_in x d.params a'.args) (param_below x d.params a.args a'.args ab.args)
 
     signal_below : (x : ℕ) (p : Place) → RowIn In (Turn.signal_row cases defs call d a T x p) (Turn.signal_row cases defs call' d a' T' x p)
-    signal_below x p = signal_at_below x (signal_in x (arms p) d.places.vars 0)
+    signal_below x p = signal_at_below x (signal_at d x (arms p))
 
-    right_below : (x : ℕ) (place : Place) (r : Right Note) → RowIn In (Turn.right_cell cases defs call d a T x place r) (Turn.right_cell cases defs call' d a' T' x place r)
-    right_below x place (rhs.Part p e) = λ i h. know_below (Turn.cell cases defs call d a T place e i) (Turn.cell cases defs call' d a' T' place e i)
-        (λ c. Some (part p x c)) (λ c. Some (part p x c)) (cell_below place e i h) (λ c. below_refl (Some (part p x c)))
-    right_below x place (rhs.Whole e) = cell_below place e
+    right_below : (x : ℕ) (place : Place) (r : Right) → RowIn In (Turn.right_cell cases defs call d a T x place r) (Turn.right_cell cases defs call' d a' T' x place r)
+    right_below x place (rhs.Part p k) = λ i h. know_below (Turn.whole cases defs call d a T k i) (Turn.whole cases defs call' d a' T' k i)
+        (λ c. Some (part p x c)) (λ c. Some (part p x c)) (whole_below k i h) (λ c. below_refl (Some (part p x c)))
+    right_below x place (rhs.Whole k) = whole_below k
     right_below x place (rhs.Pattern y p) = λ i h. know_below (Turn.signal_row cases defs call d a T y place i) (Turn.signal_row cases defs call' d a' T' y place i)
         (λ c. Some (part p x c)) (λ c. Some (part p x c)) (signal_below y place i h) (λ c. below_refl (Some (part p x c)))
 
-    by_reach_below : (c c' m m' : Option Cell) (signal : Bool) → Below c c' → Below m m' → (r : Reach) → Below (Search.by_reach c m signal r) (Search.by_reach c' m' signal r)
+    by_reach_below : (c c' m m' : Option Cell) (signal : Bool) → Below c c' → Below m m' → (r : Reach) → Below (Choices.by_reach c m signal r) (Choices.by_reach c' m' signal r)
     by_reach_below c c' m m' signal p q Here = p
     by_reach_below c c' m m' signal p q Elsewhere = q
     by_reach_below c c' m m' signal p q NoArm = below_refl (Some (if signal then Silent else Present nil))
 
-    by_sites_below : (w : Variable) (o o' : Row Cell) (all : List (Site Note)) → RowIn In o o' → RowIn In (Turn.by_sites cases defs call d a T w o all) (Turn.by_sites cases defs call' d a' T' w o' all)
+    by_sites_below : (w : Variable) (o o' : Row Cell) (all : List Site) → RowIn In o o' → RowIn In (Turn.by_sites cases defs call d a T w o all) (Turn.by_sites cases defs call' d a' T' w o' all)
     by_sites_below w o o' [] q = q
     by_sites_below w o o' (s ∷ rest) q = λ i h. know_below (Turn.reach cases defs call d a T s.inner i) (Turn.reach cases defs call' d a' T' s.inner i)
-        (Search.by_reach (Turn.right_cell cases defs call d a T w.name s.place s.right i) (Turn.by_sites cases defs call d a T w o rest i) w.signal)
-        (Search.by_reach (Turn.right_cell cases defs call' d a' T' w.name s.place s.right i) (Turn.by_sites cases defs call' d a' T' w o' rest i) w.signal)
+        (Choices.by_reach (Turn.right_cell cases defs call d a T w.name s.place s.right i) (Turn.by_sites cases defs call d a T w o rest i) w.signal)
+        (Choices.by_reach (Turn.right_cell cases defs call' d a' T' w.name s.place s.right i) (Turn.by_sites cases defs call' d a' T' w o' rest i) w.signal)
         (reach_below s.inner i h)
         (by_reach_below (Turn.right_cell cases defs call d a T w.name s.place s.right i) (Turn.right_cell cases defs call' d a' T' w.name s.place s.right i)
         (Turn.by_sites cases defs call d a T w o rest i) (Turn.by_sites cases defs call' d a' T' w o' rest i) w.signal (right_below w.name s.place s.right i h) (by_sites_below w o o' rest q i h))
@@ -452,89 +479,87 @@ module _ (In : ℕ → Type 0) (down : (i : ℕ) → In (suc i) → In i) where
         (variable_here_below x i h)
         (by_sites_below w (Turn.otherwise cases defs call d a T x w) (Turn.otherwise cases defs call' d a' T' x w) (sites_of x d.places.sites) (otherwise_below x w) i h)
 
-    start_below : (s : Option (Start Note)) → RowIn In (Turn.start_cell cases defs call d a T s) (Turn.start_cell cases defs call' d a' T' s)
+    start_below : (s : Option Start) → RowIn In (Turn.start_cell cases defs call d a T s) (Turn.start_cell cases defs call' d a' T' s)
     start_below None = λ i h. below_refl (Some Absent)
-    start_below (Some s) = cell_below s.place s.right
+    start_below (Some s) = whole_below s.right
 
     start_variable_below : (w : Option Variable) → RowIn In (Turn.start_of_variable cases defs call d a T w) (Turn.start_of_variable cases defs call' d a' T' w)
     start_variable_below None = λ i h x e. e
     start_variable_below (Some w) = start_below (start_of w d.places.starts)
 
-    mode_on_below : (o : Option ClockTerm) (p : Place) → RowIn In (Turn.mode_on cases defs call d a T o p) (Turn.mode_on cases defs call' d a' T' o p)
-    mode_on_below None p = active_below p
-    mode_on_below (Some ck) p = on_below ck
-
-    abbrev ms : ℕ → Option ClockTerm
-    ms m = Search.mode_clock m d.places.exprs
+    mode_on_below : (o : Option ClockTerm) (x : Option ℕ) (p : Place) → RowIn In (Turn.mode_on cases defs call d a T o x p) (Turn.mode_on cases defs call' d a' T' o x p)
+    mode_on_below (Some ck) x p = on_below ck
+    mode_on_below None (Some x) p = signal_here_below x (arms p)
+    mode_on_below None None p = active_below p
 
     mode_below : (m : ℕ) (p : Place) → RowIn In (Turn.mode_here cases defs call d a T m p) (Turn.mode_here cases defs call' d a' T' m p)
-    mode_below m p = mode_on_below (ms m) p
+    mode_below m p = mode_on_below (Search.mode_clock m d.places.exprs) (Search.tested_outside d m) p
 
-    yes_or_below : (c m m' : Option Cell) → Below m m' → (t : Bool) → Below (Search.yes_or c m t) (Search.yes_or c m' t)
+    yes_or_below : (c m m' : Option Cell) → Below m m' → (t : Bool) → Below (Choices.yes_or c m t) (Choices.yes_or c m' t)
     yes_or_below c m m' p true = below_refl c
     yes_or_below c m m' p false = p
 
-    first_true_below : (states : List (ℕ × List (Transition Note))) (p : Place) (o : Option Cell) (gs : List (Transition Note))
-        → RowIn In (Turn.first_true cases defs call d a T states p o gs) (Turn.first_true cases defs call' d a' T' states p o gs)
-    first_true_below states p o [] = λ i h. below_refl o
-    first_true_below states p o (g ∷ gs) = λ i h. know_below (Turn.cell cases defs call d a T p g.cond i) (Turn.cell cases defs call' d a' T' p g.cond i)
-        (λ c. Search.yes_or (Some (Chosen (Some (Search.state_of g.target states 0)) g.restart)) (Turn.first_true cases defs call d a T states p o gs i) (is_yes c))
-        (λ c. Search.yes_or (Some (Chosen (Some (Search.state_of g.target states 0)) g.restart)) (Turn.first_true cases defs call' d a' T' states p o gs i) (is_yes c))
-        (cell_below p g.cond i h)
-        (λ c. yes_or_below (Some (Chosen (Some (Search.state_of g.target states 0)) g.restart)) (Turn.first_true cases defs call d a T states p o gs i) (Turn.first_true cases defs call' d a' T' states p o gs i)
-        (first_true_below states p o gs i h) (is_yes c))
+    first_true_below : (states : List (ℕ × List Transition)) (o : Option Cell) (gs : List Transition)
+        → RowIn In (Turn.first_true cases defs call d a T states o gs) (Turn.first_true cases defs call' d a' T' states o gs)
+    first_true_below states o [] = λ i h. below_refl o
+    first_true_below states o (g ∷ gs) = λ i h. know_below (Turn.whole cases defs call d a T g.cond i) (Turn.whole cases defs call' d a' T' g.cond i)
+        (λ c. Choices.yes_or (Some (Chosen (Some (Search.state_of g.target states 0)) g.restart)) (Turn.first_true cases defs call d a T states o gs i) (is_yes c))
+        (λ c. Choices.yes_or (Some (Chosen (Some (Search.state_of g.target states 0)) g.restart)) (Turn.first_true cases defs call' d a' T' states o gs i) (is_yes c))
+        (whole_below g.cond i h)
+        (λ c. yes_or_below (Some (Chosen (Some (Search.state_of g.target states 0)) g.restart)) (Turn.first_true cases defs call d a T states o gs i) (Turn.first_true cases defs call' d a' T' states o gs i)
+        (first_true_below states o gs i h) (is_yes c))
 
-    choice_below : (keep : Bool) (m : ℕ) (states : List (ℕ × List (Transition Note))) (p : Place) (i : ℕ) → In i → (c : Cell)
-        → Below (Turn.choice cases defs call d a T keep m states p i c) (Turn.choice cases defs call' d a' T' keep m states p i c)
-    choice_below keep m states p i h (Chosen (Some s) restart) = first_true_below states (p ++ frame.Arm m s ∷ []) (Some (Chosen (Some s) (Search.and keep restart))) (Search.guards_of states s) i h
-    choice_below keep m states p i h (Chosen None restart) = below_refl (Some (Chosen None restart))
-    choice_below keep m states p i h Absent = below_refl (Some Absent)
-    choice_below keep m states p i h Silent = below_refl (Some Silent)
-    choice_below keep m states p i h (Present w) = below_refl (Some (Present w))
+    choice_below : (keep : Bool) (states : List (ℕ × List Transition)) (i : ℕ) → In i → (c : Cell)
+        → Below (Turn.choice cases defs call d a T keep states i c) (Turn.choice cases defs call' d a' T' keep states i c)
+    choice_below keep states i h (Chosen (Some s) restart) = first_true_below states (Some (Chosen (Some s) (Search.and keep restart))) (Search.guards_of states s) i h
+    choice_below keep states i h (Chosen None restart) = below_refl (Some (Chosen None restart))
+    choice_below keep states i h Absent = below_refl (Some Absent)
+    choice_below keep states i h Silent = below_refl (Some Silent)
+    choice_below keep states i h (Present w) = below_refl (Some (Present w))
 
     emitted_below : (xs : List ℕ) (p : Place) (j : ℕ) → RowIn In (Turn.first_emitted cases defs call d a T xs p j) (Turn.first_emitted cases defs call' d a' T' xs p j)
     emitted_below [] p j = λ i h. below_refl (Some (Chosen (Some j) false))
     emitted_below (x ∷ xs) p j = λ i h. know_below (Turn.signal_row cases defs call d a T x p i) (Turn.signal_row cases defs call' d a' T' x p i)
-        (λ c. Search.yes_or (Some (Chosen (Some j) false)) (Turn.first_emitted cases defs call d a T xs p (suc j) i) (emitted c))
-        (λ c. Search.yes_or (Some (Chosen (Some j) false)) (Turn.first_emitted cases defs call' d a' T' xs p (suc j) i) (emitted c))
+        (λ c. Choices.yes_or (Some (Chosen (Some j) false)) (Turn.first_emitted cases defs call d a T xs p (suc j) i) (emitted c))
+        (λ c. Choices.yes_or (Some (Chosen (Some j) false)) (Turn.first_emitted cases defs call' d a' T' xs p (suc j) i) (emitted c))
         (signal_below x p i h)
         (λ c. yes_or_below (Some (Chosen (Some j) false)) (Turn.first_emitted cases defs call d a T xs p (suc j) i) (Turn.first_emitted cases defs call' d a' T' xs p (suc j) i) (emitted_below xs p (suc j) i h) (emitted c))
 
     present_below : (xs : List ℕ) (p : Place) → RowIn In (Turn.present_here cases defs call d a T xs p) (Turn.present_here cases defs call' d a' T' xs p)
     present_below [] p = active_below p
-    present_below (x ∷ xs) p = λ i h. both_below (Turn.active cases defs call d a T p i) (Turn.active cases defs call' d a' T' p i)
-        (say is_here (Turn.signal_row cases defs call d a T x p i)) (say is_here (Turn.signal_row cases defs call' d a' T' x p i)) (active_below p i h)
-        (say_below is_here (Turn.signal_row cases defs call d a T x p i) (Turn.signal_row cases defs call' d a' T' x p i) (signal_below x p i h))
+    present_below (x ∷ xs) p = signal_here_below x (arms p)
 
-    name_below : (m : ℕ) (n : Option (Named Note)) → RowIn In (Turn.name_cell cases defs call d a T m n) (Turn.name_cell cases defs call' d a' T' m n)
+    name_below : (m : ℕ) (n : Option Named) → RowIn In (Turn.name_cell cases defs call d a T m n) (Turn.name_cell cases defs call' d a' T' m n)
     name_below m None = λ i h x e. e
     name_below m (Some (named.Clock x)) = λ i h. below_refl (Some Absent)
-    name_below m (Some (named.Match e all p)) = λ i h. at_below (Turn.on cases defs call d a T e.note.ck i) (Turn.on cases defs call' d a' T' e.note.ck i)
-        (know (Turn.cell cases defs call d a T p e i) (λ c. Some (Chosen (Search.chosen_arm all (value_in c)) false)))
-        (know (Turn.cell cases defs call' d a' T' p e i) (λ c. Some (Chosen (Search.chosen_arm all (value_in c)) false)))
-        (on_below e.note.ck i h)
-        (know_below (Turn.cell cases defs call d a T p e i) (Turn.cell cases defs call' d a' T' p e i) (λ c. Some (Chosen (Search.chosen_arm all (value_in c)) false)) (λ c. Some (Chosen (Search.chosen_arm all (value_in c)) false))
-        (cell_below p e i h) (λ c. below_refl (Some (Chosen (Search.chosen_arm all (value_in c)) false))))
+    name_below m (Some (named.Match k all p)) =
+        let ck : ClockTerm = (whole_of d k).expr.note.ck in
+        λ i h. at_below (Turn.on cases defs call d a T ck i) (Turn.on cases defs call' d a' T' ck i)
+        (know (Turn.whole cases defs call d a T k i) (λ c. Some (Chosen (Choices.chosen_arm all (value_in c)) false)))
+        (know (Turn.whole cases defs call' d a' T' k i) (λ c. Some (Chosen (Choices.chosen_arm all (value_in c)) false)))
+        (on_below ck i h)
+        (know_below (Turn.whole cases defs call d a T k i) (Turn.whole cases defs call' d a' T' k i) (λ c. Some (Chosen (Choices.chosen_arm all (value_in c)) false)) (λ c. Some (Chosen (Choices.chosen_arm all (value_in c)) false))
+        (whole_below k i h) (λ c. below_refl (Some (Chosen (Choices.chosen_arm all (value_in c)) false))))
     name_below m (Some (named.Present xs p)) = λ i h. at_below (Turn.present_here cases defs call d a T xs p i) (Turn.present_here cases defs call' d a' T' xs p i)
         (Turn.first_emitted cases defs call d a T xs p 0 i) (Turn.first_emitted cases defs call' d a' T' xs p 0 i) (present_below xs p i h) (emitted_below xs p 0 i h)
     name_below m (Some (named.Active states p)) = λ i h. at_below (Turn.mode_here cases defs call d a T m p i) (Turn.mode_here cases defs call' d a' T' m p i)
-        (know (T (key.Name (m + 1)) i) (Turn.choice cases defs call d a T true (m + 1) states p i)) (know (T' (key.Name (m + 1)) i) (Turn.choice cases defs call' d a' T' true (m + 1) states p i))
+        (know (T (key.Name (m + 1)) i) (Turn.choice cases defs call d a T true states i)) (know (T' (key.Name (m + 1)) i) (Turn.choice cases defs call' d a' T' true states i))
         (mode_below m p i h)
-        (know_below (T (key.Name (m + 1)) i) (T' (key.Name (m + 1)) i) (Turn.choice cases defs call d a T true (m + 1) states p i) (Turn.choice cases defs call' d a' T' true (m + 1) states p i)
-        (tb (key.Name (m + 1)) i h) (choice_below true (m + 1) states p i h))
+        (know_below (T (key.Name (m + 1)) i) (T' (key.Name (m + 1)) i) (Turn.choice cases defs call d a T true states i) (Turn.choice cases defs call' d a' T' true states i)
+        (tb (key.Name (m + 1)) i h) (choice_below true states i h))
     name_below m (Some (named.Tested states p)) = λ i h. at_below (Turn.mode_here cases defs call d a T (m - 1) p i) (Turn.mode_here cases defs call' d a' T' (m - 1) p i)
-        (know (previous (Turn.mode_here cases defs call d a T (m - 1) p) (Turn.again cases defs call d a T p) i) (Turn.after_state cases defs call d a T (Turn.choice cases defs call d a T false (m - 1) states p) (T (key.Name (m - 1)))))
-        (know (previous (Turn.mode_here cases defs call' d a' T' (m - 1) p) (Turn.again cases defs call' d a' T' p) i) (Turn.after_state cases defs call' d a' T' (Turn.choice cases defs call' d a' T' false (m - 1) states p) (T' (key.Name (m - 1)))))
+        (know (previous (Turn.mode_here cases defs call d a T (m - 1) p) (Turn.again cases defs call d a T p) i) (Turn.after_state cases defs call d a T (Turn.choice cases defs call d a T false states) (T (key.Name (m - 1)))))
+        (know (previous (Turn.mode_here cases defs call' d a' T' (m - 1) p) (Turn.again cases defs call' d a' T' p) i) (Turn.after_state cases defs call' d a' T' (Turn.choice cases defs call' d a' T' false states) (T' (key.Name (m - 1)))))
         (mode_below (m - 1) p i h)
         (delay_below In down (Turn.mode_here cases defs call d a T (m - 1) p) (Turn.mode_here cases defs call' d a' T' (m - 1) p) (Turn.again cases defs call d a T p) (Turn.again cases defs call' d a' T' p)
-        (Turn.after_state cases defs call d a T (Turn.choice cases defs call d a T false (m - 1) states p) (T (key.Name (m - 1)))) (Turn.after_state cases defs call' d a' T' (Turn.choice cases defs call' d a' T' false (m - 1) states p) (T' (key.Name (m - 1))))
+        (Turn.after_state cases defs call d a T (Turn.choice cases defs call d a T false states) (T (key.Name (m - 1)))) (Turn.after_state cases defs call' d a' T' (Turn.choice cases defs call' d a' T' false states) (T' (key.Name (m - 1))))
         (mode_below (m - 1) p) (again_below p) i h (below_refl (Some (Chosen (Some 0) false)))
-        (λ j l. know_below (T (key.Name (m - 1)) j) (T' (key.Name (m - 1)) j) (Turn.choice cases defs call d a T false (m - 1) states p j) (Turn.choice cases defs call' d a' T' false (m - 1) states p j)
-        (tb (key.Name (m - 1)) j l) (choice_below false (m - 1) states p j l)))
+        (λ j l. know_below (T (key.Name (m - 1)) j) (T' (key.Name (m - 1)) j) (Turn.choice cases defs call d a T false states j) (Turn.choice cases defs call' d a' T' false states j)
+        (tb (key.Name (m - 1)) j l) (choice_below false states j l)))
 
-    reset_below : (o : Option (E × Place)) → RowIn In (Turn.reset_cell cases defs call d a T o) (Turn.reset_cell cases defs call' d a' T' o)
+    reset_below : (o : Option ℕ) → RowIn In (Turn.reset_cell cases defs call d a T o) (Turn.reset_cell cases defs call' d a' T' o)
     reset_below None = λ i h x e. e
-    reset_below (Some ep) = cell_below ep.1 ep.0
+    reset_below (Some k) = whole_below k
 
     pub turn_below : TableIn In (Turn.turn cases defs call d a T) (Turn.turn cases defs call' d a' T')
     turn_below (key.Var x) = variable_below x (nth d.places.vars x)

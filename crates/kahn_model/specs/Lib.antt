@@ -1,9 +1,8 @@
 pub mod Rows
 pub mod Values
-pub mod Clocks
 pub mod Cells
 pub mod Functions
-pub mod Search
+pub mod Choices
 pub mod Turn
 pub mod Table
 pub mod Alarm

@@ -1,32 +1,33 @@
 -- What each row of a body's table is computed from: the rows that it reads at the same instant, those of which it reads
 -- earlier cells, and the calls that it makes.
-use Rattle.std.specs.Prelude.{ℕ, suc, ◌+◌, ◌-◌, List, [], ◌∷◌, ◌++◌, map, length, Option, Some, None, if◌then◌else◌, nat_lt}
+use Rattle.std.specs.Prelude.{ℕ, ◌+◌, ◌-◌, List, [], ◌∷◌, ◌++◌, map, length, Option, Some, None, if◌then◌else◌, nat_lt}
 use Rattle.ls_ast.specs.declared.tree.Expr.{Expr-F, fold-Expr}
 use Rattle.ls_ast.specs.declared.tree.Form.TheOpen.{Form-F}
 use Rattle.ls_ast.specs.declared.tree.Pat.{Pat}
 use Rattle.ls_terms.specs.declared.clocks.ClockTerm.{ClockTerm, fold-ClockTerm}
 use Rattle.ls_terms.specs.declared.clocks.ClockTerm.TheOpen.{ClockTerm-F}
-use Rattle.ls_sig.specs.Patterns.{names_of, joined}
-use Rattle.ls_sig.specs.Places.{Place, InnerArm, arms}
+use Rattle.ls_places.specs.Patterns.{names_of, joined}
+use Rattle.ls_places.specs.Places.{Place, InnerArm, arms}
 use Rattle.ls_sig.specs.declared.binder.Binder.{Binder}
 use Rattle.ls_sig.specs.declared.binder.Binder.TheVariants as b
 use Rattle.ls_sig.specs.declared.binder.Note.{Note}
-use Rattle.ls_sig.specs.declared.places.Frame.{Frame}
-use Rattle.ls_sig.specs.declared.places.Frame.TheVariants as frame
-use Rattle.ls_sig.specs.declared.places.Named.{Named}
-use Rattle.ls_sig.specs.declared.places.Named.TheVariants as named
-use Rattle.ls_sig.specs.declared.places.Right.{Right}
-use Rattle.ls_sig.specs.declared.places.Right.TheVariants as rhs
-use Rattle.ls_sig.specs.declared.places.Site.{Site}
-use Rattle.ls_sig.specs.declared.places.Start.{Start}
-use Rattle.ls_sig.specs.declared.places.Transition.{Transition}
-use Rattle.ls_sig.specs.declared.places.Variable.{Variable}
-use Rattle.kahn_model.specs.declared.cell.Key.{Key}
-use Rattle.kahn_model.specs.declared.cell.Key.TheVariants as key
-use Rattle.kahn_model.specs.declared.definition.Definition.{Definition}
-use Rattle.kahn_model.specs.Clocks.{bare, choice_parts, is_function}
-use Rattle.kahn_model.specs.Functions.{Arg, stream, def, given, has_name}
-use Rattle.kahn_model.specs.Search.{E, nth, lacks, in_signature, home_of, mode_clock, sites_of, start_of, signal_in}
+use Rattle.ls_places.specs.declared.places.Frame.{Frame}
+use Rattle.ls_places.specs.declared.places.Frame.TheVariants as frame
+use Rattle.ls_places.specs.declared.places.Named.{Named}
+use Rattle.ls_places.specs.declared.places.Named.TheVariants as named
+use Rattle.ls_places.specs.declared.places.Right.{Right}
+use Rattle.ls_places.specs.declared.places.Right.TheVariants as rhs
+use Rattle.ls_places.specs.declared.places.Site.{Site}
+use Rattle.ls_places.specs.declared.places.Start.{Start}
+use Rattle.ls_places.specs.declared.places.Transition.{Transition}
+use Rattle.ls_places.specs.declared.places.Variable.{Variable}
+use Rattle.ls_places.specs.declared.definition.Key.{Key}
+use Rattle.ls_places.specs.declared.definition.Key.TheVariants as key
+use Rattle.ls_places.specs.declared.definition.Definition.{Definition}
+use Rattle.ls_places.specs.Clocks.{bare, choice_parts, is_function}
+use Rattle.kahn_model.specs.Functions.{Arg, stream, def, given}
+use Rattle.ls_places.specs.Patterns.{has_name}
+use Rattle.ls_places.specs.Search.{E, nth, lacks, in_signature, home_of, mode_clock, param_clock, signal_arms, signal_at, sites_of, start_of, tested_outside, whole_of}
 
 -- what an argument is apart from its rows: a stream, a definition, or a function with one more argument
 pub data Shape : Type 0 where
@@ -116,7 +117,7 @@ frame_key (frame.Arm m j) = key.Name m
 abbrev pub around_keys : Place → List Key
 around_keys = map {A = Frame} {B = Key} frame_key
 
-abbrev pub name_key : Option (Named Note) → ℕ → Key
+abbrev pub name_key : Option Named → ℕ → Key
 name_key (Some (named.Clock x)) m = key.Var x
 name_key _ m = key.Name m
 
@@ -124,7 +125,7 @@ abbrev pub bound_keys : Binder → List Key
 bound_keys (b.Var k) = key.Var k ∷ []
 bound_keys _ = []
 
-abbrev pub start_keys : ℕ → Option (Start Note) → List Key
+abbrev pub start_keys : ℕ → Option Start → List Key
 start_keys x None = []
 start_keys x (Some s) = key.Start x ∷ []
 
@@ -149,17 +150,29 @@ module _ (d : Definition) (shapes : List Shape) where
   clocks_keys cks = joined (map clock_keys cks)
 
   -- the clock of a variable, by an equation for it
-  abbrev pub right_clock_keys : Site Note → Right Note → List Key
-  right_clock_keys s (rhs.Part p e) = clock_keys (bare (length s.inner) e.note.ck)
-  right_clock_keys s (rhs.Whole e) = clock_keys (bare (length s.inner) e.note.ck)
+  abbrev pub right_clock_keys : Site → Right → List Key
+  right_clock_keys s (rhs.Part p k) = clock_keys (bare (length s.inner) (whole_of d k).expr.note.ck)
+  right_clock_keys s (rhs.Whole k) = clock_keys (bare (length s.inner) (whole_of d k).expr.note.ck)
   right_clock_keys s (rhs.Pattern x p) = arm_keys (arms s.place)
 
-  abbrev pub site_clock_keys : Option (Site Note) → List Key
+  abbrev pub site_clock_keys : Option Site → List Key
   site_clock_keys None = []
   site_clock_keys (Some s) = right_clock_keys s s.right
 
   abbrev pub variable_clock_keys : ℕ → List Key
   variable_clock_keys x = site_clock_keys (nth (sites_of x d.places.sites) 0)
+
+  -- the clock of a signal that is seen in these arms, and the blocks between its list and here
+  abbrev pub some_clock_keys : Option ClockTerm → List Key
+  some_clock_keys None = []
+  some_clock_keys (Some ck) = clock_keys ck
+
+  abbrev pub signal_clock_keys : ℕ → Option ℕ → List Key
+  signal_clock_keys x (Some k) = variable_clock_keys k
+  signal_clock_keys x None = some_clock_keys (param_clock x d.params d.clocks)
+
+  abbrev pub signal_here_keys : ℕ → List InnerArm → List Key
+  signal_here_keys x p = signal_clock_keys x (signal_at d x p) ++ arm_keys (signal_arms d x p)
 
   -- ---- expressions
 
@@ -200,6 +213,13 @@ module _ (d : Definition) (shapes : List Shape) where
   used n (b.Def k) x = called n (b.Def k) x [] None
   used n bound x = record { needs = now_only (bound_keys bound); shape = look_shape bound x }
 
+  -- a delay reads the variables that its note lists
+  abbrev pub restart_keys : List ℕ → List Key
+  restart_keys = map {A = ℕ} {B = Key} key.Var
+
+  abbrev pub delayed : Note → Needs → Needs
+  delayed n r = together (now_only (restart_keys n.restarts)) r
+
   abbrev pub a_row : Needs → Formed
   a_row r = record { needs = r; shape = a_stream }
 
@@ -212,9 +232,9 @@ module _ (d : Definition) (shapes : List Shape) where
   form_reading (Form-F.Asked x) n = a_row (now_only (bound_keys n.bound))
   form_reading (Form-F.Op o args) n = a_row (all_needs args)
   form_reading (Form-F.Tuple all) n = a_row (all_needs all)
-  form_reading (Form-F.Pre e) n = a_row (earlier e.needs)
-  form_reading (Form-F.Fby x y) n = a_row (together x.needs (earlier y.needs))
-  form_reading (Form-F.Init x y) n = a_row (together x.needs y.needs)
+  form_reading (Form-F.Pre e) n = a_row (delayed n (earlier e.needs))
+  form_reading (Form-F.Fby x y) n = a_row (delayed n (together x.needs (earlier y.needs)))
+  form_reading (Form-F.Init x y) n = a_row (delayed n (together x.needs y.needs))
   form_reading (Form-F.When e x k) n = a_row e.needs
   form_reading (Form-F.Merge x choices) n = a_row (together (now_only (bound_keys n.bound)) (all_needs (choice_parts choices)))
   form_reading (Form-F.Call run head args every) n = called n n.bound head.0 args every
@@ -234,6 +254,10 @@ module _ (d : Definition) (shapes : List Shape) where
   abbrev pub needs_at : Place → E → Needs
   needs_at p e = together (now_only (around_keys p)) (reading e).needs
 
+  -- the whole expression of this number
+  abbrev pub whole_needs : ℕ → Needs
+  whole_needs k = needs_at (whole_of d k).place (whole_of d k).expr
+
   -- ---- rows
 
   abbrev pub signal_keys_of : Option ℕ → List Key
@@ -241,11 +265,11 @@ module _ (d : Definition) (shapes : List Shape) where
   signal_keys_of None = []
 
   abbrev pub signal_keys : Place → ℕ → List Key
-  signal_keys p x = signal_keys_of (signal_in x (arms p) d.places.vars 0)
+  signal_keys p x = signal_keys_of (signal_at d x (arms p))
 
-  abbrev pub right_needs : Place → Right Note → Needs
-  right_needs place (rhs.Part p e) = needs_at place e
-  right_needs place (rhs.Whole e) = needs_at place e
+  abbrev pub right_needs : Place → Right → Needs
+  right_needs place (rhs.Part p k) = whole_needs k
+  right_needs place (rhs.Whole k) = whole_needs k
   right_needs place (rhs.Pattern y p) = now_only (signal_keys place y)
 
   -- `last x`, if some arm has no equation for x
@@ -257,7 +281,7 @@ module _ (d : Definition) (shapes : List Shape) where
   site_needs [] right more = right
   site_needs (mj ∷ inner) right more = together (together (now_only (arm_keys (mj ∷ inner))) right) more
 
-  abbrev pub sites_needs : Needs → List (Site Note) → Needs
+  abbrev pub sites_needs : Needs → List Site → Needs
   sites_needs more [] = more
   sites_needs more (s ∷ rest) = site_needs s.inner (right_needs s.place s.right) (sites_needs more rest)
 
@@ -266,45 +290,50 @@ module _ (d : Definition) (shapes : List Shape) where
   variable_needs x (Some w) = together (now_only (variable_clock_keys x))
       (sites_needs (otherwise_needs x w) (sites_of x d.places.sites))
 
-  abbrev pub start_needs : Option (Start Note) → Needs
+  abbrev pub start_needs : Option Start → Needs
   start_needs None = nothing
-  start_needs (Some s) = needs_at s.place s.right
+  start_needs (Some s) = whole_needs s.right
 
   abbrev pub variable_start_needs : Option Variable → Needs
   variable_start_needs None = nothing
   variable_start_needs (Some w) = start_needs (start_of w d.places.starts)
 
-  abbrev pub mode_keys_of : Option ClockTerm → Place → List Key
-  mode_keys_of None p = arm_keys (arms p)
-  mode_keys_of (Some ck) p = clock_keys ck
+  abbrev pub mode_keys_of : Option ClockTerm → Option ℕ → Place → List Key
+  mode_keys_of (Some ck) tested p = clock_keys ck
+  mode_keys_of None (Some x) p = signal_here_keys x (arms p)
+  mode_keys_of None None p = arm_keys (arms p)
 
   abbrev pub mode_keys : ℕ → Place → List Key
-  mode_keys m p = mode_keys_of (mode_clock m d.places.exprs) p
+  mode_keys m p = mode_keys_of (mode_clock m d.places.exprs) (tested_outside d m) p
 
-  abbrev pub transitions_needs : Place → List (Transition Note) → Needs
-  transitions_needs p [] = nothing
-  transitions_needs p (g ∷ gs) = together (needs_at p g.cond) (transitions_needs p gs)
+  abbrev pub present_keys : List ℕ → Place → List Key
+  present_keys [] p = arm_keys (arms p)
+  present_keys (x ∷ xs) p = signal_here_keys x (arms p)
 
-  -- the guards of all states, from the state `s` on
-  abbrev pub guards_needs : ℕ → Place → ℕ → List (ℕ × List (Transition Note)) → Needs
-  guards_needs m p s [] = nothing
-  guards_needs m p s (t ∷ ts) = together (transitions_needs (p ++ frame.Arm m s ∷ []) t.1) (guards_needs m p (suc s) ts)
+  abbrev pub transitions_needs : List Transition → Needs
+  transitions_needs [] = nothing
+  transitions_needs (g ∷ gs) = together (whole_needs g.cond) (transitions_needs gs)
+
+  -- the guards of all states
+  abbrev pub guards_needs : List (ℕ × List Transition) → Needs
+  guards_needs [] = nothing
+  guards_needs (t ∷ ts) = together (transitions_needs t.1) (guards_needs ts)
 
   -- A tested row reads no guard at its own instant. An active row reads the tested row and all strong guards.
-  abbrev pub name_needs : ℕ → Option (Named Note) → Needs
+  abbrev pub name_needs : ℕ → Option Named → Needs
   name_needs m None = nothing
   name_needs m (Some (named.Clock x)) = nothing
-  name_needs m (Some (named.Match e all p)) = together (now_only (clock_keys e.note.ck)) (needs_at p e)
-  name_needs m (Some (named.Present xs p)) = now_only (arm_keys (arms p) ++ joined (map (signal_keys p) xs))
+  name_needs m (Some (named.Match k all p)) = together (now_only (clock_keys (whole_of d k).expr.note.ck)) (whole_needs k)
+  name_needs m (Some (named.Present xs p)) = now_only (present_keys xs p ++ joined (map (signal_keys p) xs))
   name_needs m (Some (named.Active states p)) =
-      together (now_only (mode_keys m p ++ key.Name (m + 1) ∷ [])) (guards_needs (m + 1) p 0 states)
+      together (now_only (mode_keys m p ++ key.Name (m + 1) ∷ [])) (guards_needs states)
   name_needs m (Some (named.Tested states p)) =
       together (now_only (mode_keys (m - 1) p ++ around_keys p))
-      (earlier (together (now_only (key.Name (m - 1) ∷ [])) (guards_needs (m - 1) p 0 states)))
+      (earlier (together (now_only (key.Name (m - 1) ∷ [])) (guards_needs states)))
 
-  abbrev pub reset_needs : Option (E × Place) → Needs
+  abbrev pub reset_needs : Option ℕ → Needs
   reset_needs None = nothing
-  reset_needs (Some ep) = needs_at ep.1 ep.0
+  reset_needs (Some k) = whole_needs k
 
   -- what a row of the table needs
   abbrev pub key_needs : Key → Needs

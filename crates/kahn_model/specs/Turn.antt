@@ -8,33 +8,34 @@ use Rattle.ls_ast.specs.declared.tree.Expr.{Expr-F, fold-Expr}
 use Rattle.ls_ast.specs.declared.tree.Form.TheOpen.{Form-F}
 use Rattle.ls_terms.specs.declared.clocks.ClockTerm.{ClockTerm, fold-ClockTerm, out-ClockTerm}
 use Rattle.ls_terms.specs.declared.clocks.ClockTerm.TheOpen.{ClockTerm-F}
-use Rattle.ls_sig.specs.Places.{Place, InnerArm, arms}
+use Rattle.ls_places.specs.Places.{Place, InnerArm, arms}
 use Rattle.ls_sig.specs.declared.binder.Binder.{Binder}
 use Rattle.ls_sig.specs.declared.binder.Binder.TheVariants as b
 use Rattle.ls_sig.specs.declared.binder.Note.{Note}
-use Rattle.ls_sig.specs.declared.places.Frame.TheVariants as frame
-use Rattle.ls_sig.specs.declared.places.Named.{Named}
-use Rattle.ls_sig.specs.declared.places.Named.TheVariants as named
-use Rattle.ls_sig.specs.declared.places.Right.{Right}
-use Rattle.ls_sig.specs.declared.places.Right.TheVariants as rhs
-use Rattle.ls_sig.specs.declared.places.Site.{Site}
-use Rattle.ls_sig.specs.declared.places.Start.{Start}
-use Rattle.ls_sig.specs.declared.places.Transition.{Transition}
-use Rattle.ls_sig.specs.declared.places.Variable.{Variable}
+use Rattle.ls_places.specs.declared.places.Frame.TheVariants as frame
+use Rattle.ls_places.specs.declared.places.Named.{Named}
+use Rattle.ls_places.specs.declared.places.Named.TheVariants as named
+use Rattle.ls_places.specs.declared.places.Right.{Right}
+use Rattle.ls_places.specs.declared.places.Right.TheVariants as rhs
+use Rattle.ls_places.specs.declared.places.Site.{Site}
+use Rattle.ls_places.specs.declared.places.Start.{Start}
+use Rattle.ls_places.specs.declared.places.Transition.{Transition}
+use Rattle.ls_places.specs.declared.places.Variable.{Variable}
 use Rattle.kahn_model.specs.declared.cell.Cell.{Cell}
 use Rattle.kahn_model.specs.declared.cell.Cell.TheVariants.{Absent, Silent, Present, Chosen}
-use Rattle.kahn_model.specs.declared.cell.Key.{Key}
-use Rattle.kahn_model.specs.declared.cell.Key.TheVariants as key
+use Rattle.ls_places.specs.declared.definition.Key.{Key}
+use Rattle.ls_places.specs.declared.definition.Key.TheVariants as key
 use Rattle.kahn_model.specs.declared.cell.Reach.{Reach}
 use Rattle.kahn_model.specs.declared.cell.Reach.TheVariants.{Here}
 use Rattle.kahn_model.specs.declared.cell.Value.TheVariants as v
-use Rattle.kahn_model.specs.declared.definition.Definition.{Definition}
+use Rattle.ls_places.specs.declared.definition.Definition.{Definition}
 use Rattle.kahn_model.specs.Rows.{Row, know, know_all, either, both, previous}
 use Rattle.kahn_model.specs.Values.{nil, tuple, case_of, eval}
-use Rattle.kahn_model.specs.Clocks.{bare, meets, meets_all, is_function}
-use Rattle.kahn_model.specs.Cells.{is_case, restarts, is_yes, emitted, is_here, value_in, values_in, say, part, at, after_first}
+use Rattle.ls_places.specs.Clocks.{bare, meets, meets_all, is_function}
+use Rattle.kahn_model.specs.Cells.{is_case, restarts, is_yes, emitted, value_in, values_in, say, part, at, after_first}
 use Rattle.kahn_model.specs.Functions.{Arg, stream, def, given, Around, Meaning, Said, nowhere, never_on, row_of, give_args, arg_at, param_in, cells_at, args_said, clocks_said}
-use Rattle.kahn_model.specs.Search.{same_number, and, E, nth, lacks, in_signature, home_of, mode_clock, sites_of, start_of, signal_in, state_of, chosen_arm, by_reach, yes_or, reach_case, guards_of, case_value}
+use Rattle.ls_places.specs.Search.{same_number, and, E, nth, lacks, in_signature, home_of, mode_clock, param_clock, signal_arms, signal_at, sites_of, start_of, state_of, guards_of, tested_outside, whole_of}
+use Rattle.kahn_model.specs.Choices.{chosen_arm, by_reach, yes_or, reach_case, case_value}
 
 abbrev pub Table : Type 0
 Table = Key → Row Cell
@@ -64,7 +65,7 @@ module _ (cases : ℕ → Option ℕ) (defs : List Definition) (call : Meaning) 
   -- ---- presence
 
   -- the row of a clock name: of a parameter, of a variable, or of a block
-  abbrev pub named_row : Option (Named Note) → ℕ → Row Cell
+  abbrev pub named_row : Option Named → ℕ → Row Cell
   named_row (Some (named.Clock x)) m = T (key.Var x)
   named_row _ m = T (key.Name m)
 
@@ -89,21 +90,40 @@ module _ (cases : ℕ → Option ℕ) (defs : List Definition) (call : Meaning) 
   look (b.Param k) x = param_in x d.params a.args
   look _ x = stream nowhere
 
+  -- where a clock is on, if there is one
+  abbrev pub where_on : Option ClockTerm → Row Bool
+  where_on None = never_on
+  where_on (Some ck) = on ck
+
   -- the clock of a variable, by an equation for it: that of the equation without the arms between
-  abbrev pub right_here : Site Note → Right Note → Row Bool
-  right_here s (rhs.Part p e) = on (bare (length s.inner) e.note.ck)
-  right_here s (rhs.Whole e) = on (bare (length s.inner) e.note.ck)
+  abbrev pub right_here : Site → Right → Row Bool
+  right_here s (rhs.Part p k) = on (bare (length s.inner) (whole_of d k).expr.note.ck)
+  right_here s (rhs.Whole k) = on (bare (length s.inner) (whole_of d k).expr.note.ck)
   right_here s (rhs.Pattern x p) = active s.place
 
-  abbrev pub variable_here_at : Option (Site Note) → Row Bool
+  abbrev pub variable_here_at : Option Site → Row Bool
   variable_here_at None = never_on
   variable_here_at (Some s) = right_here s s.right
 
   abbrev pub variable_here : ℕ → Row Bool
   variable_here x = variable_here_at (nth (sites_of x d.places.sites) 0)
 
+  -- a clock sampled at arms: on where it is, and each block chooses its arm
+  abbrev pub in_arms : Row Bool → List InnerArm → Row Bool
+  in_arms row [] = row
+  in_arms row (mj ∷ p) = in_arms (λ i. both (row i) (say (is_case mj.1) (T (key.Name mj.0) i))) p
+
+  -- the clock of the signal of this name: that of the variable, or else of the parameter
+  abbrev pub signal_clock : ℕ → Option ℕ → Row Bool
+  signal_clock x (Some k) = variable_here k
+  signal_clock x None = where_on (param_clock x d.params d.clocks)
+
+  -- the clock of the signal of this name that is seen in these arms, sampled at those between its list and here
+  abbrev pub signal_here : ℕ → List InnerArm → Row Bool
+  signal_here x p = in_arms (signal_clock x (signal_at d x p)) (signal_arms d x p)
+
   -- `last x`: x at its own previous instant, and at a first instant its initial equation, or Nil without one
-  abbrev pub start_row : ℕ → Option (Start Note) → Row Cell
+  abbrev pub start_row : ℕ → Option Start → Row Cell
   start_row x None i = Some (Present nil)
   start_row x (Some s) i = T (key.Start x) i
 
@@ -123,13 +143,9 @@ module _ (cases : ℕ → Option ℕ) (defs : List Definition) (call : Meaning) 
   -- ---- functions
 
   -- the rows of the clock variables of a definition's signature, where it is called or passed at these clocks
-  abbrev pub instance_row : Option ClockTerm → Row Bool
-  instance_row None = never_on
-  instance_row (Some ck) = on ck
-
   abbrev pub instance_of : Option Definition → List ClockTerm → ClockTerm → ℕ → Row Bool
   instance_of None cks ck = λ w. never_on
-  instance_of (Some e) cks ck = λ w. instance_row (meets_all (map meets (e.clocks ++ e.result.note.ck ∷ [])) (cks ++ ck ∷ []) w)
+  instance_of (Some e) cks ck = λ w. where_on (meets_all (map meets (e.clocks ++ e.result.note.ck ∷ [])) (cks ++ ck ∷ []) w)
 
   -- a function that is passed as a pointwise one has none of its own
   abbrev pub clocks_at : ℕ → List ClockTerm → ClockTerm → ClockTerm-F ClockTerm → Option (ℕ → Row Bool)
@@ -185,6 +201,11 @@ module _ (cases : ℕ → Option ℕ) (defs : List Definition) (call : Meaning) 
   abbrev pub merged : List (Case × Said) → ℕ → Cell → Option Cell
   merged choices i c = merged_case choices i (case_of (value_in c))
 
+  -- an expression restarts with its place, and also where a variable is present and true that its note lists
+  abbrev pub again_too : Row Bool → List ℕ → Row Bool
+  again_too row [] = row
+  again_too row (x ∷ xs) = again_too (λ i. either (row i) (say is_yes (T (key.Var x) i))) xs
+
   -- each form by the cells of its parts, at a place with this activity and these restarts
   abbrev pub form_step : Row Bool → Row Bool → Form-F Note (Note → Arg) Said → Note → Arg
   form_step act rst (Form-F.Leaf l) note = stream (λ i. Some (Present (v.Leaf l)))
@@ -194,9 +215,9 @@ module _ (cases : ℕ → Option ℕ) (defs : List Definition) (call : Meaning) 
   form_step act rst (Form-F.Asked x) note = stream (λ i. know (row_of (look note.bound x.0) i) (λ c. Some (Present (v.Leaf (leaf.Bool (emitted c))))))
   form_step act rst (Form-F.Op o args) note = stream (λ i. know (know_all (cells_at i args)) (λ cs. Some (Present (eval o (values_in cs)))))
   form_step act rst (Form-F.Tuple all) note = stream (λ i. know (know_all (cells_at i all)) (λ cs. Some (Present (tuple (values_in cs)))))
-  form_step act rst (Form-F.Pre e) note = stream (λ i. know (previous (on note.ck) rst i) (after_first (Some (Present nil)) (row_of e.arg)))
-  form_step act rst (Form-F.Fby x y) note = stream (λ i. know (previous (on note.ck) rst i) (after_first (row_of x.arg i) (row_of y.arg)))
-  form_step act rst (Form-F.Init x y) note = stream (λ i. know (previous (on note.ck) rst i) (after_first (row_of x.arg i) (λ j. row_of y.arg i)))
+  form_step act rst (Form-F.Pre e) note = stream (λ i. know (previous (on note.ck) (again_too rst note.restarts) i) (after_first (Some (Present nil)) (row_of e.arg)))
+  form_step act rst (Form-F.Fby x y) note = stream (λ i. know (previous (on note.ck) (again_too rst note.restarts) i) (after_first (row_of x.arg i) (row_of y.arg)))
+  form_step act rst (Form-F.Init x y) note = stream (λ i. know (previous (on note.ck) (again_too rst note.restarts) i) (after_first (row_of x.arg i) (λ j. row_of y.arg i)))
   form_step act rst (Form-F.When e x k) note = stream (row_of e.arg)
   form_step act rst (Form-F.Merge x choices) note = stream (λ i. know (row_of (look note.bound x.0) i) (merged choices i))
   form_step act rst (Form-F.Call run x args every) note = called act rst note (head_of note.bound note.ck x.0 (clocks_said args)) args every
@@ -217,6 +238,10 @@ module _ (cases : ℕ → Option ℕ) (defs : List Definition) (call : Meaning) 
   abbrev pub cell : Place → E → Row Cell
   cell p e = row_of (said p e).arg
 
+  -- the row of the whole expression of this number
+  abbrev pub whole : ℕ → Row Cell
+  whole k = cell (whole_of d k).place (whole_of d k).expr
+
   -- ---- variables that several arms share
 
   -- whether the arms between a list and an equation are active
@@ -230,16 +255,16 @@ module _ (cases : ℕ → Option ℕ) (defs : List Definition) (call : Meaning) 
   signal_row_at x None = row_of (param_in x d.params a.args)
 
   abbrev pub signal_row : ℕ → Place → Row Cell
-  signal_row x p = signal_row_at x (signal_in x (arms p) d.places.vars 0)
+  signal_row x p = signal_row_at x (signal_at d x (arms p))
 
   -- the cell that an equation gives to a name
-  abbrev pub right_cell : ℕ → Place → Right Note → Row Cell
-  right_cell x place (rhs.Part p e) i = know (cell place e i) (λ c. Some (part p x c))
-  right_cell x place (rhs.Whole e) i = cell place e i
+  abbrev pub right_cell : ℕ → Place → Right → Row Cell
+  right_cell x place (rhs.Part p k) i = know (whole k i) (λ c. Some (part p x c))
+  right_cell x place (rhs.Whole k) i = whole k i
   right_cell x place (rhs.Pattern y p) i = know (signal_row y place i) (λ c. Some (part p x c))
 
   -- the first equation whose arms are active, and else the other row
-  abbrev pub by_sites : Variable → Row Cell → List (Site Note) → Row Cell
+  abbrev pub by_sites : Variable → Row Cell → List Site → Row Cell
   by_sites w more [] i = more i
   by_sites w more (s ∷ rest) i =
       know (reach s.inner i) (by_reach (right_cell w.name s.place s.right i) (by_sites w more rest i) w.signal)
@@ -253,41 +278,43 @@ module _ (cases : ℕ → Option ℕ) (defs : List Definition) (call : Meaning) 
   variable_cell x None i = Some Absent
   variable_cell x (Some w) i = at (variable_here x i) (by_sites w (otherwise x w) (sites_of x d.places.sites) i)
 
-  abbrev pub start_cell : Option (Start Note) → Row Cell
+  abbrev pub start_cell : Option Start → Row Cell
   start_cell None i = Some Absent
-  start_cell (Some s) i = cell s.place s.right i
+  start_cell (Some s) i = whole s.right i
 
   -- ---- blocks and automata
 
-  -- an automaton is on where the clock is that its names sample; where no clock samples them, where its place is active
-  abbrev pub mode_on : Option ClockTerm → Place → Row Bool
-  mode_on None p = active p
-  mode_on (Some ck) p = on ck
+  -- An automaton is on where the clock is that its names sample. Where no clock samples them, it is on with a signal from
+  -- outside that a `present` in its arms tests; and where there is none, where its place is active.
+  abbrev pub mode_on : Option ClockTerm → Option ℕ → Place → Row Bool
+  mode_on (Some ck) tested p = on ck
+  mode_on None (Some x) p = signal_here x (arms p)
+  mode_on None None p = active p
 
   abbrev pub mode_here : ℕ → Place → Row Bool
-  mode_here m p = mode_on (mode_clock m d.places.exprs) p
+  mode_here m p = mode_on (mode_clock m d.places.exprs) (tested_outside d m) p
 
   -- the target of the first true guard, and else the other cell
-  abbrev pub first_true : List (ℕ × List (Transition Note)) → Place → Option Cell → List (Transition Note) → Row Cell
-  first_true states p none [] i = none
-  first_true states p none (g ∷ gs) i = know (cell p g.cond i) (λ c.
-      yes_or (Some (Chosen (Some (state_of g.target states 0)) g.restart)) (first_true states p none gs i) (is_yes c))
+  abbrev pub first_true : List (ℕ × List Transition) → Option Cell → List Transition → Row Cell
+  first_true states none [] i = none
+  first_true states none (g ∷ gs) i = know (whole g.cond i) (λ c.
+      yes_or (Some (Chosen (Some (state_of g.target states 0)) g.restart)) (first_true states none gs i) (is_yes c))
 
-  -- by the guards of the state that a cell names, on the clock name `m`; where none is true, that cell or without its restart
-  abbrev pub choice : Bool → ℕ → List (ℕ × List (Transition Note)) → Place → ℕ → Cell → Option Cell
-  choice keep m states p i (Chosen (Some s) restart) =
-      first_true states (p ++ frame.Arm m s ∷ []) (Some (Chosen (Some s) (and keep restart))) (guards_of states s) i
-  choice keep m states p i c = Some c
+  -- by the guards of the state that a cell names; where none is true, that cell or without its restart
+  abbrev pub choice : Bool → List (ℕ × List Transition) → ℕ → Cell → Option Cell
+  choice keep states i (Chosen (Some s) restart) =
+      first_true states (Some (Chosen (Some s) (and keep restart))) (guards_of states s) i
+  choice keep states i c = Some c
 
   -- the selector of a `present`: the first test whose signal is emitted, and else the last arm
   abbrev pub first_emitted : List ℕ → Place → ℕ → ℕ → Option Cell
   first_emitted [] p j i = Some (Chosen (Some j) false)
   first_emitted (x ∷ xs) p j i = know (signal_row x p i) (λ c. yes_or (Some (Chosen (Some j) false)) (first_emitted xs p (suc j) i) (emitted c))
 
-  -- a `present` is on where its signals are
+  -- a `present` is on where the signals that it tests are, in the arms between
   abbrev pub present_here : List ℕ → Place → Row Bool
-  present_here [] p i = active p i
-  present_here (x ∷ xs) p i = both (active p i) (say is_here (signal_row x p i))
+  present_here [] p = active p
+  present_here (x ∷ xs) p = signal_here x (arms p)
 
   -- from the initial state at a first instant
   abbrev pub after_state : (ℕ → Cell → Option Cell) → Row Cell → Option ℕ → Option Cell
@@ -296,22 +323,23 @@ module _ (cases : ℕ → Option ℕ) (defs : List Definition) (call : Meaning) 
 
   -- The selector of a `match` or `present`. The active state of an automaton is what the strong guards of the tested state
   -- choose, and the tested one what the weak guards of the state active at the previous instant chose.
-  abbrev pub name_cell : ℕ → Option (Named Note) → Row Cell
+  abbrev pub name_cell : ℕ → Option Named → Row Cell
   name_cell m None i = Some Absent
   name_cell m (Some (named.Clock x)) i = Some Absent
-  name_cell m (Some (named.Match e all p)) i = at (on e.note.ck i) (know (cell p e i) (λ c. Some (Chosen (chosen_arm all (value_in c)) false)))
+  name_cell m (Some (named.Match k all p)) i =
+      at (on (whole_of d k).expr.note.ck i) (know (whole k i) (λ c. Some (Chosen (chosen_arm all (value_in c)) false)))
   name_cell m (Some (named.Present xs p)) i = at (present_here xs p i) (first_emitted xs p 0 i)
-  name_cell m (Some (named.Active states p)) i = at (mode_here m p i) (know (T (key.Name (m + 1)) i) (choice true (m + 1) states p i))
+  name_cell m (Some (named.Active states p)) i = at (mode_here m p i) (know (T (key.Name (m + 1)) i) (choice true states i))
   name_cell m (Some (named.Tested states p)) i =
-      at (mode_here (m - 1) p i) (know (previous (mode_here (m - 1) p) (again p) i) (after_state (choice false (m - 1) states p) (T (key.Name (m - 1)))))
+      at (mode_here (m - 1) p i) (know (previous (mode_here (m - 1) p) (again p) i) (after_state (choice false states) (T (key.Name (m - 1)))))
 
   abbrev pub start_of_variable : Option Variable → Row Cell
   start_of_variable None i = Some Absent
   start_of_variable (Some w) i = start_cell (start_of w d.places.starts) i
 
-  abbrev pub reset_cell : Option (E × Place) → Row Cell
+  abbrev pub reset_cell : Option ℕ → Row Cell
   reset_cell None i = Some Absent
-  reset_cell (Some ep) i = cell ep.1 ep.0 i
+  reset_cell (Some k) i = whole k i
 
   -- a turn
   abbrev pub turn : Table

@@ -6,7 +6,7 @@ use Rattle.ls_ops.specs.declared.kinds.Op.{Op}
 use Rattle.ls_ops.specs.declared.kinds.Op.TheVariants as op
 use Rattle.ls_ast.specs.declared.tree.Pat.{Pat, fold-Pat}
 use Rattle.ls_ast.specs.declared.tree.Pat.TheOpen.{Pat-F}
-use Rattle.ls_sig.specs.Patterns.{joined}
+use Rattle.ls_places.specs.Patterns.{joined}
 use Rattle.kahn_model.specs.declared.cell.Value.{Value, fold-Value, out-Value}
 use Rattle.kahn_model.specs.declared.cell.Value.TheOpen.{Value-F}
 use Rattle.kahn_model.specs.declared.cell.Value.TheVariants as v

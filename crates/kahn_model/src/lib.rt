@@ -2,11 +2,9 @@
 #![tactic(auto)]
 
 mod cell;
-mod definition;
 pub mod laws;
 
-pub use cell::{Cell, Key, Reach, Value};
-pub use definition::Definition;
+pub use cell::{Cell, Reach, Value};
 
 #[cfg(test)]
 mod tests;

@@ -6,6 +6,8 @@ fn laws_are_stated(_rt: HostRuntime) -> Result<(), Fail> {
     laws::rows_are_ordered();
     laws::turns_are_monotone();
     laws::full_tables_are_solutions();
+    laws::tables_are_least_solutions();
+    laws::rows_may_be_made_one_by_one();
     laws::rising_tables_are_full();
     laws::causal_bodies_are_known();
     laws::later_lines_change_nothing();

@@ -2,10 +2,10 @@
 use Rattle.std.proofs.Common.{◌≡◌, ◌≢◌, ℕ, ◌+◌, ◌<◌, ◌≤◌, List, [], ◌∷◌, ◌++◌, length, take, drop, Option, None, Some, refl, sym, ◌∙◌, ap, subst, arith, append_assoc, length-append}
 use Rattle.std.specs.Prelude.{Contains, IfSome}
 use Rattle.std.specs.Option.{option_map}
-use Rattle.std.proofs.lemmas.List.{append-nil, take-append-drop, take_all, length-take, take-append-le}
-use Rattle.std.proofs.Math.Seq.{take-take}
+use Rattle.std.proofs.lemmas.List.{append-nil, take-append-drop, take_all, length-take, length-drop, take-append-le, drop-append-le}
+use Rattle.std.proofs.Math.Seq.{take-take, drop-length}
 use Rattle.std.proofs.lemmas.List.Elements.{All-contains, Contains-append_right}
-use Rattle.line_io.specs.Line.{line_of, rest_of, NoNewline, ahead, TakesFront}
+use Rattle.line_io.specs.Line.{line_of, rest_of, NoNewline, ahead, TakesFront, IsShort}
 use Rattle.line_io.proofs.LineLemmas.{line_of-cut, rest_of-cut, line_of-quiet, rest_of-quiet}
 
 -- a read moves bytes from the source to those held
@@ -115,3 +115,60 @@ pub begins_last : (a b line after : List ℕ) → line ≡ b → take (length a)
 begins_last a b line after is ab =
     let short : length a ≤ length b = omega (arith, ap length ab, length-take (length a) b) in
     ap (λ (xs : List ℕ). take (length a) (xs ++ 10 ∷ after)) is ∙ take-append-le (length a) b (10 ∷ after) short ∙ ab
+
+-- what was taken from a source since it had `old` is what is held behind the first bytes
+abbrev pub Takes : List ℕ → List ℕ → Option (List ℕ) → Option (List ℕ) → Type 0
+Takes first held old new = old ≡ option_map (λ rest. drop (length first) held ++ rest) new
+
+-- at the start nothing was
+pub takes_no : (first : List ℕ) (l : Option (List ℕ)) → Takes first first l l
+takes_no first None = refl
+takes_no first (Some rest) = ap (λ xs. Some (xs ++ rest)) (sym (drop-length first))
+
+-- the bytes held are the first ones and those that were taken
+first_and_taken : (first held : List ℕ) → take (length first) held ≡ first → first ++ drop (length first) held ≡ held
+first_and_taken first held front = ap (λ xs. xs ++ drop (length first) held) (sym front) ∙ take-append-drop (length first) held
+
+two_takes : (a b : List ℕ) (l : Option (List ℕ)) → option_map (λ rest. a ++ rest) (option_map (λ rest. b ++ rest) l) ≡ option_map (λ rest. a ++ (b ++ rest)) l
+two_takes a b None = refl
+two_takes a b (Some rest) = refl
+
+-- one more read
+pub takes_more : (first held held' : List ℕ) (old mid new : Option (List ℕ)) → take (length first) held ≡ first → take (length held) held' ≡ held
+    → Takes first held old mid → Takes held held' mid new → Takes first held' old new
+takes_more first held held' old mid new front front' s t =
+    let short : length first ≤ length held = omega (arith, ap length front, length-take (length first) held) in
+    let more : drop (length first) held ++ drop (length held) held' ≡ drop (length first) held' =
+    sym (drop-append-le (length first) held (drop (length held) held') short) ∙ ap (drop (length first)) (first_and_taken held held' front') in
+    s ∙ ap (option_map (λ rest. drop (length first) held ++ rest)) t
+    ∙ two_takes (drop (length first) held) (drop (length held) held') new
+    ∙ regroup (drop (length first) held) (drop (length held) held') new
+    ∙ (λ i. option_map (λ rest. more i ++ rest) new)
+  where
+    regroup : (a b : List ℕ) (l : Option (List ℕ)) → option_map (λ rest. a ++ (b ++ rest)) l ≡ option_map (λ rest. (a ++ b) ++ rest) l
+    regroup a b None = refl
+    regroup a b (Some rest) = ap Some (sym (append_assoc a b rest))
+
+-- a read that gave bytes was made without a whole line
+pub short_read : (first held held' : List ℕ) (old mid new : Option (List ℕ)) (n gave : ℕ) → take (length first) held ≡ first → NoNewline held → length held ≤ 65536
+    → Takes first held old mid → Takes held held' mid new → length held' ≡ length held + n → gave ≡ n → IsShort first old new gave
+short_read first held held' old mid new n gave front quiet room s t more same = record {
+  before = drop (length first) held;
+  piece = drop (length held) held';
+  taken = s ∙ ap (option_map (λ rest. drop (length first) held ++ rest)) t ∙ two_takes (drop (length first) held) (drop (length held) held') new;
+  last = omega (arith, length-drop (length held) held', more, same);
+  no_line = subst NoNewline (sym (first_and_taken first held front)) quiet;
+  room = subst (λ xs. length xs ≤ 65536) (sym (first_and_taken first held front)) room;
+}
+
+-- and so was one that failed
+pub short_fault : (first held : List ℕ) (old mid new : Option (List ℕ)) (gave : ℕ) → take (length first) held ≡ first → NoNewline held → length held ≤ 65536
+    → Takes first held old mid → new ≡ mid → gave ≡ 0 → IsShort first old new gave
+short_fault first held old mid new gave front quiet room s same none = record {
+  before = drop (length first) held;
+  piece = [];
+  taken = s ∙ (λ i. option_map (λ rest. drop (length first) held ++ rest) (sym same i));
+  last = sym none;
+  no_line = subst NoNewline (sym (first_and_taken first held front)) quiet;
+  room = subst (λ xs. length xs ≤ 65536) (sym (first_and_taken first held front)) room;
+}

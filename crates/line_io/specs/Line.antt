@@ -1,5 +1,5 @@
 -- How a row of bytes is split into lines, and what a buffer of lines holds.
-use Rattle.std.specs.Prelude.{◌≡◌, ◌≢◌, ℕ, ◌-◌, ◌==◌, if◌then◌else◌, List, [], ◌∷◌, ◌++◌, Option, take, drop, All}
+use Rattle.std.specs.Prelude.{◌≡◌, ◌≢◌, ℕ, ◌-◌, ◌≤◌, ◌==◌, if◌then◌else◌, List, [], ◌∷◌, ◌++◌, Option, length, take, drop, All}
 use Rattle.std.specs.Option.{option_map}
 use Rattle.line_io.specs.declared.buffer.Next.{Next}
 use Rattle.line_io.specs.declared.buffer.Next.TheVariants.{Line, End, LongLine, ReadFault}
@@ -40,6 +40,17 @@ pub record Buffer : Type 0 where
 -- the bytes that are still to come: those held, and then those left in the source, where it tells them
 abbrev pub ahead : List ℕ → Option (List ℕ) → Option (List ℕ)
 ahead held left = option_map (λ rest. held ++ rest) left
+
+-- What was held when the last read of a call was made, where the source tells its bytes: it held these
+-- bytes at entry and those that its earlier reads gave, and was still without a whole line and not full.
+-- So it was at each read before.
+pub record IsShort (held : List ℕ) (old new : Option (List ℕ)) (gave : ℕ) : Type 0 where
+  pub before : List ℕ
+  pub piece : List ℕ
+  pub taken : old ≡ option_map (λ rest. before ++ (piece ++ rest)) new
+  pub last : length piece ≡ gave
+  pub no_line : NoNewline (held ++ before)
+  pub room : length (held ++ before) ≤ 65536
 
 -- some bytes were taken from the source's front
 abbrev pub TakesFront : Option (List ℕ) → Option (List ℕ) → Type 0

@@ -1,8 +1,8 @@
-ghost use Rattle.std.specs.Prelude.{◌≡◌, ℕ, ◌+◌, ◌-◌, ◌<◌, ◌≤◌, List, [], ◌∷◌, ◌++◌, length, take, drop, Contains, MatchOption, IfOk, IfSome, OnErr};
+ghost use Rattle.std.specs.Prelude.{◌≡◌, ℕ, ◌+◌, ◌-◌, ◌<◌, ◌≤◌, ◌⊎◌, List, [], ◌∷◌, ◌++◌, length, take, drop, Contains, MatchOption, IfOk, IfSome, OnErr};
 ghost use Rattle.std.specs.Bool.{OnTrue, OnFalse};
 ghost use Rattle.std.specs.Option.{option_map};
 ghost use Rattle.ls_base.specs.Outside.{Rose};
-ghost use Rattle.line_io.specs.Line.{line_of, rest_of, NoNewline, part, ahead, TakesFront, OnLine, OnEnd, OnLongLine, OnReadFault, OnNoLine};
+ghost use Rattle.line_io.specs.Line.{line_of, rest_of, NoNewline, part, ahead, TakesFront, IsShort, OnLine, OnEnd, OnLongLine, OnReadFault, OnNoLine};
 
 use ls_base::{Failed, NoMemory, Source};
 use memchr::memchr;
@@ -124,6 +124,8 @@ impl LineBuf {
         ensures front { IfOk result (λ n. take (length self.old.held) self.new.held ≡ self.old.held) }
         ensures taken { IfOk result (λ n. S.left source.old ≡ option_map (λ rest. drop (length self.old.held) self.new.held ++ rest) (S.left source.new)) }
         ensures end { IfOk result (λ n. n ≡ 0 → IfSome (S.left source.old) (λ bytes. bytes ≡ [])) }
+        ensures gives { IfOk result (λ n. S.gave source.new ≡ n) }
+        ensures gives_none { OnErr result (S.gave source.new ≡ 0) }
         ensures failed { OnErr result ((self.new.held ≡ self.old.held) × (S.left source.new ≡ S.left source.old) × Rose (S.count source.old) (S.count source.new)) }
         ensures counted { S.count source.old ≤ S.count source.new }
     {
@@ -149,8 +151,9 @@ impl LineBuf {
         self.scanned = self.end;
     }
 
-    /// Finds the next line of the bytes held and those that the source gives after them. It reads
-    /// only while it holds no whole line, and takes no memory.
+    /// Finds the next line of the bytes held and those that the source gives after them. Each read
+    /// is made while it holds no whole line and has room, so whoever sends a line and waits is
+    /// answered. It takes no memory.
     ///
     /// After `LongLine` and `ReadFault` the bytes taken are still held: the next call answers
     /// `LongLine` again, or goes on to read.
@@ -168,6 +171,7 @@ impl LineBuf {
         ensures blank { OnNoLine result (self.new.line ≡ []) }
         ensures whole { Contains self.old.held 10 → (result ≡ Next.Line) × (self.old.held ≡ self.new.line ++ 10 ∷ self.new.held) × (source.new ≡ source.old) }
         ensures again { length self.old.held ≡ 65537 → NoNewline self.old.held → (result ≡ Next.LongLine) × (self.new.held ≡ self.old.held) × (source.new ≡ source.old) }
+        ensures reads { (source.new ≡ source.old) ⊎ IsShort self.old.held (S.left source.old) (S.left source.new) (S.gave source.new) }
         ensures taken { TakesFront (S.left source.old) (S.left source.new) }
         ensures counted { S.count source.old ≤ S.count source.new }
     {

@@ -63,24 +63,30 @@ fn a_line_may_have_65536_bytes(rt: HostRuntime) -> Result<(), Fail> {
     Ok(())
 }
 
-/// A source that has no bytes left after its first read, and keeps how many bytes it was lent.
+/// A source that has no bytes left after its first read, and keeps how many bytes it was lent and
+/// gave.
 #[derive(Drop)]
 struct Watched {
     first: bool,
     lent: usize,
+    gave: usize,
 }
 
 impl Source for Watched {
     ghost left = { λ _. None };
 
+    ghost gave = { λ s. s.gave };
+
     ghost count = { λ _. 0 };
 
     fn read(&mut self, into: &mut [u8]) -> Result<usize, Failed> {
         self.lent = into.len();
+        self.gave = 0;
         if !self.first || into.len() < 4 {
             return Ok(0);
         }
         self.first = false;
+        self.gave = 4;
         into[..4].copy_from_slice(b"1\n23");
         Ok(4)
     }
@@ -95,6 +101,7 @@ fn a_read_is_lent_all_the_room(rt: HostRuntime) -> Result<(), Fail> {
     let mut source = Watched {
         first: true,
         lent: 0,
+        gave: 0,
     };
     let mut buffer = LineBuf::new(rt.alloc())?;
     for (next, lent) in [

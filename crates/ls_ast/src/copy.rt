@@ -28,7 +28,7 @@ impl NoteCopy for Plain {
 }
 
 #[cycle(pats)]
-fn copy_pats(all: &[Pat], alloc: Global) -> Result<List<Pat>, NoMemory>
+fn copy_pats(alloc: Global, all: &[Pat]) -> Result<List<Pat>, NoMemory>
     ensures { IfOk result (λ r. r ≡ all.now) }
 {
     let mut done = List::new(alloc);
@@ -45,13 +45,13 @@ impl NoteCopy for Pat {
             Pat::Any => Ok(Pat::Any),
             Pat::Unit => Ok(Pat::Unit),
             Pat::Var(name) => Ok(Pat::Var(*name)),
-            Pat::Tuple(parts) => Ok(Pat::Tuple(copy_pats(parts.as_slice(), alloc)?)),
+            Pat::Tuple(parts) => Ok(Pat::Tuple(copy_pats(alloc, parts.as_slice())?)),
         }
     }
 }
 
 #[cycle(expr)]
-fn copy_exprs<N: NoteCopy>(all: &[Expr<N>], alloc: Global) -> Result<List<Expr<N>>, NoMemory>
+fn copy_exprs<N: NoteCopy>(alloc: Global, all: &[Expr<N>]) -> Result<List<Expr<N>>, NoMemory>
     ensures { IfOk result (λ r. r ≡ all.now) }
 {
     let mut done = List::new(alloc);
@@ -63,8 +63,8 @@ fn copy_exprs<N: NoteCopy>(all: &[Expr<N>], alloc: Global) -> Result<List<Expr<N
 
 #[cycle(expr)]
 fn copy_choices<N: NoteCopy>(
-    all: &[(Case, Expr<N>)],
     alloc: Global,
+    all: &[(Case, Expr<N>)],
 ) -> Result<List<(Case, Expr<N>)>, NoMemory>
     ensures { IfOk result (λ r. r ≡ all.now) }
 {
@@ -76,7 +76,7 @@ fn copy_choices<N: NoteCopy>(
 }
 
 #[cycle(expr)]
-fn copy_maybe<N: NoteCopy>(e: &Option<Expr<N>>, alloc: Global) -> Result<Option<Expr<N>>, NoMemory>
+fn copy_maybe<N: NoteCopy>(alloc: Global, e: &Option<Expr<N>>) -> Result<Option<Expr<N>>, NoMemory>
     ensures { IfOk result (λ r. r ≡ e.now) }
 {
     match e {
@@ -104,14 +104,14 @@ impl<N: NoteCopy> NoteCopy for Form<N> {
             Form::Var(name) => Ok(Form::Var(*name)),
             Form::Last(name) => Ok(Form::Last(*name)),
             Form::Asked(name) => Ok(Form::Asked(*name)),
-            Form::Op(op, args) => Ok(Form::Op(*op, copy_exprs(args.as_slice(), alloc)?)),
-            Form::Tuple(parts) => Ok(Form::Tuple(copy_exprs(parts.as_slice(), alloc)?)),
+            Form::Op(op, args) => Ok(Form::Op(*op, copy_exprs(alloc, args.as_slice())?)),
+            Form::Tuple(parts) => Ok(Form::Tuple(copy_exprs(alloc, parts.as_slice())?)),
             Form::Pre(e) => Ok(Form::Pre(e.copy(alloc)?)),
             Form::Fby(a, b) => Ok(Form::Fby(a.copy(alloc)?, b.copy(alloc)?)),
             Form::Init(a, b) => Ok(Form::Init(a.copy(alloc)?, b.copy(alloc)?)),
             Form::When(e, name, case) => Ok(Form::When(e.copy(alloc)?, *name, *case)),
             Form::Merge(name, choices) => {
-                Ok(Form::Merge(*name, copy_choices(choices.as_slice(), alloc)?))
+                Ok(Form::Merge(*name, copy_choices(alloc, choices.as_slice())?))
             }
             Form::Call {
                 run,
@@ -121,15 +121,15 @@ impl<N: NoteCopy> NoteCopy for Form<N> {
             } => Ok(Form::Call {
                 run: *run,
                 head: *head,
-                args: copy_exprs(args.as_slice(), alloc)?,
-                every: copy_maybe(every, alloc)?,
+                args: copy_exprs(alloc, args.as_slice())?,
+                every: copy_maybe(alloc, every)?,
             }),
         }
     }
 }
 
 #[cycle(eqs)]
-fn copy_eqs<N: NoteCopy>(all: &[Equation<N>], alloc: Global) -> Result<List<Equation<N>>, NoMemory>
+fn copy_eqs<N: NoteCopy>(alloc: Global, all: &[Equation<N>]) -> Result<List<Equation<N>>, NoMemory>
     ensures { IfOk result (λ r. r ≡ all.now) }
 {
     let mut done = List::new(alloc);
@@ -140,7 +140,7 @@ fn copy_eqs<N: NoteCopy>(all: &[Equation<N>], alloc: Global) -> Result<List<Equa
 }
 
 #[cycle(eqs)]
-fn copy_arms<N: NoteCopy>(all: &[Arm<N>], alloc: Global) -> Result<List<Arm<N>>, NoMemory>
+fn copy_arms<N: NoteCopy>(alloc: Global, all: &[Arm<N>]) -> Result<List<Arm<N>>, NoMemory>
     ensures { IfOk result (λ r. r ≡ all.now) }
 {
     let mut done = List::new(alloc);
@@ -151,7 +151,7 @@ fn copy_arms<N: NoteCopy>(all: &[Arm<N>], alloc: Global) -> Result<List<Arm<N>>,
 }
 
 #[cycle(eqs)]
-fn copy_tests<N: NoteCopy>(all: &[Test<N>], alloc: Global) -> Result<List<Test<N>>, NoMemory>
+fn copy_tests<N: NoteCopy>(alloc: Global, all: &[Test<N>]) -> Result<List<Test<N>>, NoMemory>
     ensures { IfOk result (λ r. r ≡ all.now) }
 {
     let mut done = List::new(alloc);
@@ -162,7 +162,7 @@ fn copy_tests<N: NoteCopy>(all: &[Test<N>], alloc: Global) -> Result<List<Test<N
 }
 
 #[cycle(eqs)]
-fn copy_states<N: NoteCopy>(all: &[State<N>], alloc: Global) -> Result<List<State<N>>, NoMemory>
+fn copy_states<N: NoteCopy>(alloc: Global, all: &[State<N>]) -> Result<List<State<N>>, NoMemory>
     ensures { IfOk result (λ r. r ≡ all.now) }
 {
     let mut done = List::new(alloc);
@@ -173,7 +173,7 @@ fn copy_states<N: NoteCopy>(all: &[State<N>], alloc: Global) -> Result<List<Stat
 }
 
 #[cycle(eqs)]
-fn copy_guards<N: NoteCopy>(all: &[Guard<N>], alloc: Global) -> Result<List<Guard<N>>, NoMemory>
+fn copy_guards<N: NoteCopy>(alloc: Global, all: &[Guard<N>]) -> Result<List<Guard<N>>, NoMemory>
     ensures { IfOk result (λ r. r ≡ all.now) }
 {
     let mut done = List::new(alloc);
@@ -185,8 +185,8 @@ fn copy_guards<N: NoteCopy>(all: &[Guard<N>], alloc: Global) -> Result<List<Guar
 
 #[cycle(eqs)]
 fn copy_else<N: NoteCopy>(
-    handler: &Option<Handler<N>>,
     alloc: Global,
+    handler: &Option<Handler<N>>,
 ) -> Result<Option<Handler<N>>, NoMemory>
     ensures { IfOk result (λ r. r ≡ handler.now) }
 {
@@ -200,8 +200,8 @@ impl<N: NoteCopy> NoteCopy for Handler<N> {
     #[cycle(eqs)]
     fn copy(&self, alloc: Global) -> Result<Handler<N>, NoMemory> {
         Ok(Handler {
-            locals: copy_eqs(self.locals.as_slice(), alloc)?,
-            eqs: copy_eqs(self.eqs.as_slice(), alloc)?,
+            locals: copy_eqs(alloc, self.locals.as_slice())?,
+            eqs: copy_eqs(alloc, self.eqs.as_slice())?,
         })
     }
 }
@@ -233,8 +233,8 @@ impl<N: NoteCopy> NoteCopy for State<N> {
         Ok(State {
             name: self.name,
             handler: self.handler.copy(alloc)?,
-            strong: copy_guards(self.strong.as_slice(), alloc)?,
-            weak: copy_guards(self.weak.as_slice(), alloc)?,
+            strong: copy_guards(alloc, self.strong.as_slice())?,
+            weak: copy_guards(alloc, self.weak.as_slice())?,
         })
     }
 }
@@ -243,7 +243,7 @@ impl<N: NoteCopy> NoteCopy for Guard<N> {
     #[cycle(eqs)]
     fn copy(&self, alloc: Global) -> Result<Guard<N>, NoMemory> {
         Ok(Guard {
-            eqs: copy_eqs(self.eqs.as_slice(), alloc)?,
+            eqs: copy_eqs(alloc, self.eqs.as_slice())?,
             cond: self.cond.copy(alloc)?,
             restart: self.restart,
             target: self.target,
@@ -260,17 +260,17 @@ impl<N: NoteCopy> NoteCopy for Equation<N> {
             Equation::Initial(name, e) => Ok(Equation::Initial(*name, e.copy(alloc)?)),
             Equation::Emit(name, e) => Ok(Equation::Emit(*name, e.copy(alloc)?)),
             Equation::Reset(eqs, e) => {
-                Ok(Equation::Reset(copy_eqs(eqs.as_slice(), alloc)?, e.copy(alloc)?))
+                Ok(Equation::Reset(copy_eqs(alloc, eqs.as_slice())?, e.copy(alloc)?))
             }
             Equation::Match(e, arms) => {
-                Ok(Equation::Match(e.copy(alloc)?, copy_arms(arms.as_slice(), alloc)?))
+                Ok(Equation::Match(e.copy(alloc)?, copy_arms(alloc, arms.as_slice())?))
             }
             Equation::Present(tests, other) => Ok(Equation::Present(
-                copy_tests(tests.as_slice(), alloc)?,
-                copy_else(other, alloc)?,
+                copy_tests(alloc, tests.as_slice())?,
+                copy_else(alloc, other)?,
             )),
             Equation::Automaton(states) => {
-                Ok(Equation::Automaton(copy_states(states.as_slice(), alloc)?))
+                Ok(Equation::Automaton(copy_states(alloc, states.as_slice())?))
             }
         }
     }

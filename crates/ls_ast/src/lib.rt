@@ -3,8 +3,6 @@
 
 mod copy;
 mod depth;
-#[cfg(test)]
-mod tests;
 mod tree;
 
 pub use depth::height;

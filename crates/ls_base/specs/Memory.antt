@@ -13,10 +13,11 @@ more n = min (n + 1) 18446744073709551615
 abbrev pub among : ℕ → List ℕ → Bool
 among call fails = list_any (λ k. nat_eq k call) fails
 
--- A source: the bytes that it still holds, the most that it gives at a time, the number of its next call, the calls that fail, and the faults so far.
+-- A source: the bytes that it still holds, the most that it gives at a time, how many its last read gave, the number of its next call, the calls that fail, and the faults so far.
 pub record SourceState : Type 0 where
   pub left : List ℕ
   pub piece : ℕ
+  pub gave : ℕ
   pub calls : ℕ
   pub fails : List ℕ
   pub faults : ℕ
@@ -32,8 +33,8 @@ given s room = min (min s.piece room) (length s.left)
 -- The source after a read into so much room.
 abbrev pub after_read : SourceState → ℕ → SourceState
 after_read s room =
-    if read_fails s then record s { calls = more s.calls; faults = more s.faults }
-    else record s { left = drop (given s room) s.left; calls = more s.calls }
+    if read_fails s then record s { gave = 0; calls = more s.calls; faults = more s.faults }
+    else record s { left = drop (given s room) s.left; gave = given s room; calls = more s.calls }
 
 -- A sink: the bytes that it has taken, the most that it takes in all, the number of its next call, the calls that fail, and the faults so far.
 pub record SinkState : Type 0 where

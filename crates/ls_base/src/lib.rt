@@ -19,7 +19,8 @@ pub use copy::NoteCopy;
 pub use list::List;
 pub use memory::{MemSink, MemSource};
 pub use names::Names;
-pub use outside::{Failed, LoadFault, Sink, Source, TEXT_LIMIT, Texts};
+pub(crate) use outside::TEXT_LIMIT;
+pub use outside::{Failed, LoadFault, Sink, Source, Texts};
 pub use real::{FileTexts, InputSource, OutputSink};
 use std::alloc::AllocError;
 pub use steps::Steps;
@@ -33,6 +34,14 @@ pub struct Line(pub u32);
 /// The number of a name in a set of names, counted from 0.
 #[derive(Clone, Copy, Debug, PartialEq, Eq, PartialOrd, Ord)]
 pub struct Name(pub u32);
+
+impl Name {
+    /// The name `false`, the first of the names of each file.
+    pub const FALSE: Name = Name(0);
+
+    /// The name `true`, the second of the names of each file.
+    pub const TRUE: Name = Name(1);
+}
 
 /// A block of memory was refused.
 #[derive(Clone, Copy, Debug, PartialEq, Eq)]

@@ -42,6 +42,7 @@ pub struct MemSource {
     bytes: Vec<u8>,
     at: usize,
     piece: usize,
+    gave: usize,
     calls: Calls,
     faults: u64,
 }
@@ -52,7 +53,7 @@ impl Model for MemSource {
 
     ghost Value = { SourceState };
 
-    ghost view = { λ s. record { left = drop s.at s.bytes.items; piece = s.piece; calls = s.calls.next; fails = s.calls.fails.items; faults = s.faults } };
+    ghost view = { λ s. record { left = drop s.at s.bytes.items; piece = s.piece; gave = s.gave; calls = s.calls.next; fails = s.calls.fails.items; faults = s.faults } };
 
     ghost invariant = { λ s. (s.at ≤ length s.bytes.items) × (1 ≤ s.piece) };
 }
@@ -62,12 +63,13 @@ impl MemSource {
     /// greatest `u64` count as that one.
     pub fn new(bytes: Vec<u8>, piece: usize, fails: Vec<u64>) -> MemSource
         requires { 1 ≤ piece }
-        ensures { result ≡ record { left = bytes.items; piece = piece; calls = 0; fails = fails.items; faults = 0 } }
+        ensures { result ≡ record { left = bytes.items; piece = piece; gave = 0; calls = 0; fails = fails.items; faults = 0 } }
     {
         MemSource {
             bytes,
             at: 0,
             piece,
+            gave: 0,
             calls: Calls::new(fails),
             faults: 0,
         }
@@ -77,6 +79,8 @@ impl MemSource {
 impl Source for MemSource {
     ghost left = { λ s. Some s.left };
 
+    ghost gave = { λ s. s.gave };
+
     ghost count = { λ s. s.faults };
 
     fn read(&mut self, into: &mut [u8]) -> Result<usize, Failed>
@@ -85,18 +89,22 @@ impl Source for MemSource {
         ensures end { IfOk result (λ n. n ≡ 0 → 0 < length into.old → self.old.left ≡ []) }
         ensures failed { OnErr result (Rose self.old.faults self.new.faults) }
         ensures untaken { OnErr result (self.new.left ≡ self.old.left) }
+        ensures gives { IfOk result (λ n. self.new.gave ≡ n) }
+        ensures gives_none { OnErr result (self.new.gave ≡ 0) }
         ensures counted { self.old.faults ≤ self.new.faults }
         ensures answer { is_ok result ≡ not (read_fails self.old) }
         ensures amount { IfOk result (λ n. n ≡ given self.old (length into.old)) }
         ensures state { self.new ≡ after_read self.old (length into.old) }
     {
         if self.calls.fails() {
+            self.gave = 0;
             self.faults = self.faults.saturating_add(1);
             return Err(Failed);
         }
         let n = self.piece.min(into.len()).min(self.bytes.len() - self.at);
         into[..n].copy_from_slice(&self.bytes[self.at..self.at + n]);
         self.at += n;
+        self.gave = n;
         Ok(n)
     }
 

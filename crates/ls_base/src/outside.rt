@@ -46,9 +46,12 @@ pub trait Texts {
 
 /// A source of bytes, as standard input.
 ///
-/// `left` is the bytes that it still holds, where it tells them.
+/// `left` is the bytes that it still holds, where it tells them. `gave` is how many bytes its last
+/// read gave: none where that read failed. So a caller can promise what it held before each read.
 pub trait Source {
     ghost left: { Self → Option (List ℕ) };
+
+    ghost gave: { Self → ℕ };
 
     ghost count: { Self → ℕ };
 
@@ -60,6 +63,8 @@ pub trait Source {
         ensures end { IfOk result (λ n. n ≡ 0 → 0 < length into.old → IfSome (left self.old) (λ bytes. bytes ≡ [])) }
         ensures failed { OnErr result (Rose (count self.old) (count self.new)) }
         ensures untaken { OnErr result (left self.new ≡ left self.old) }
+        ensures gives { IfOk result (λ n. gave self.new ≡ n) }
+        ensures gives_none { OnErr result (gave self.new ≡ 0) }
         ensures counted { count self.old ≤ count self.new };
 
     /// The number of faults so far.

@@ -84,24 +84,26 @@ impl<R: Files> Texts for FileTexts<'_, R> {
 pub struct InputSource<'a, R: Input> {
     rt: &'a R,
     reader: R::Reader,
+    gave: usize,
     faults: u64,
 }
 
 impl<'a, R: Input> Model for InputSource<'a, R> {
-    ghost use Rattle.std.specs.Prelude.{ℕ};
+    ghost use Rattle.ls_base.specs.Outside.{ReadState};
 
-    ghost Value = { ℕ };
+    ghost Value = { ReadState };
 
-    ghost view = { λ s. s.faults };
+    ghost view = { λ s. record { faults = s.faults; gave = s.gave } };
 }
 
 impl<'a, R: Input> InputSource<'a, R> {
     pub fn new(rt: &'a R) -> InputSource<'a, R>
-        ensures { result ≡ 0 }
+        ensures { result.faults ≡ 0 }
     {
         InputSource {
             rt,
             reader: rt.reader(),
+            gave: 0,
             faults: 0,
         }
     }
@@ -110,12 +112,18 @@ impl<'a, R: Input> InputSource<'a, R> {
 impl<R: Input> Source for InputSource<'_, R> {
     ghost left = { λ _. None };
 
-    ghost count = { λ s. s };
+    ghost gave = { λ s. s.gave };
+
+    ghost count = { λ s. s.faults };
 
     fn read(&mut self, into: &mut [u8]) -> Result<usize, Failed> {
         match self.reader.read(into) {
-            Ok(taken) => Ok(taken),
+            Ok(taken) => {
+                self.gave = taken;
+                Ok(taken)
+            }
             Err(_) => {
+                self.gave = 0;
                 self.faults = self.faults.saturating_add(1);
                 Err(Failed)
             }

@@ -1,8 +1,7 @@
 -- The keywords, and the symbols.
-use Rattle.std.specs.Prelude.{ℕ, Bool, ◌==◌, ◌&&◌, if◌then◌else◌, List, [], ◌∷◌, Option, Some, None, codes, map, find}
+use Rattle.std.specs.Prelude.{ℕ, Bool, ◌==◌, ◌&&◌, if◌then◌else◌, List, [], ◌∷◌, Option, Some, None, codes, find}
 use Rattle.std.specs.Option.{option_map}
 use Rattle.std.specs.Str.{bytes_eq}
-use denote.Ref.{Bor}
 use Rattle.ls_ops.specs.declared.kinds.Op.{Op}
 use Rattle.ls_ops.specs.Signature.{is_prefix, symbol_of}
 use Rattle.ls_ops.specs.Symbols.{all_operators}
@@ -10,10 +9,6 @@ use Rattle.ls_lexer.specs.declared.token.Fixed.{Fixed}
 use Rattle.ls_lexer.specs.declared.token.Fixed.TheVariants.{KwAnd, KwAutomaton, KwClock, KwContinue, KwDo, KwDone, KwElse, KwEmit, KwEnd, KwEvery, KwFalse, KwFby, KwIf, KwIn, KwLast, KwLet, KwMatch, KwMerge, KwMod, KwNode, KwNot, KwOr, KwPre, KwPresent, KwRec, KwReset, KwRun, KwThen, KwTrue, KwType, KwUnless, KwUntil, KwWhen, KwWhenot, KwWhere, KwWith, KwXor, ParenLeft, ParenRight, Comma, Equal, Differ, Less, LessEq, Greater, GreaterEq, Plus, Minus, Star, Slash, Arrow, Ampersand, Bar, Question}
 use Rattle.ls_lexer.specs.declared.keyword.Keyword.{Keyword}
 use Rattle.ls_lexer.specs.declared.keyword.Keyword.TheVariants.{Fixed as Only, Prefix}
-
--- the rows of a table, each a word and its token
-abbrev pub entries : List (Bor (List ℕ) × Fixed) → List (List ℕ × Fixed)
-entries rows = map (λ row. (row.0.now, row.1)) rows
 
 -- each keyword that is a token of its own, with its token
 abbrev pub words : List (List ℕ × Fixed)
@@ -31,10 +26,6 @@ words =
 -- the token of a word in a table, if it is there
 abbrev pub word_in : List (List ℕ × Fixed) → List ℕ → Option Fixed
 word_in rows word = option_map (λ row. row.1) (find (λ row. bytes_eq row.0 word) rows)
-
--- the same look-up in the rows as the code has them
-abbrev pub first_in : List (Bor (List ℕ) × Fixed) → List ℕ → Option Fixed
-first_in rows word = option_map (λ row. row.1) (find (λ row. bytes_eq row.0.now word) rows)
 
 -- the operator stands before its operands, and the word is its symbol
 abbrev pub is_prefix_word : List ℕ → Op → Bool

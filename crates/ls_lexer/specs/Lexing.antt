@@ -3,6 +3,7 @@ use Rattle.std.specs.Prelude.{◌≡◌, ℕ, zero, suc, ◌+◌, ◌<◌, ◌�
 use Rattle.std.specs.Str.{IsUtf8, IsValidUpTo, chars}
 use Rattle.ls_base.specs.declared.Line.{Line}
 use Rattle.ls_base.specs.declared.Name.{Name}
+use Rattle.ls_base.specs.declared.TheConstants.Name.{FALSE, TRUE}
 use Rattle.ls_base.specs.Names.{with_name}
 use Rattle.std.specs.Str.Parse.{digits_value}
 use Rattle.ls_value.specs.Reading.{IsToken}
@@ -123,8 +124,8 @@ IsNamed names (Fixed word) = Unit {0}
 
 -- `false` and `true` are the first names, and each token's name is one of them all
 abbrev pub HasNames : Tokens → Type 0
-HasNames tokens = (slice_get tokens.names 0 ≡ Some (codes "false"))
-    × (slice_get tokens.names 1 ≡ Some (codes "true"))
+HasNames tokens = (slice_get tokens.names FALSE.0 ≡ Some (codes "false"))
+    × (slice_get tokens.names TRUE.0 ≡ Some (codes "true"))
     × All (λ entry. IsNamed tokens.names entry.1) tokens.list
 
 -- the tokens of a file

@@ -1,4 +1,5 @@
 pub mod Characters
 pub mod Keywords
+pub mod Letters
 pub mod Pieces
 pub mod Lexing

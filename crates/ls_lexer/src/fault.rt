@@ -9,20 +9,20 @@ use thiserror::Error;
 #[derive(Clone, Copy, Debug, PartialEq, Eq, Error)]
 pub enum LexFault {
     /// The line of the first byte that begins no character of UTF-8.
-    #[error("line {}: not UTF-8", .0.0)]
+    #[error("not UTF-8 at line {}", .0.0)]
     NotUtf8(Line),
     /// The line of a character that begins no token, or of the quote of a character or a string
     /// that is not closed as it must be.
-    #[error("line {}: no token", .0.0)]
+    #[error("bad character at line {}", .0.0)]
     Bad(Line),
     /// The line of the first quote of a string of more than 63 characters.
-    #[error("line {}: a string of more than 63 characters", .0.0)]
+    #[error("text too long at line {}", .0.0)]
     LongText(Line),
     /// The line of an integer over 9223372036854775807.
-    #[error("line {}: an integer of more than 64 bits", .0.0)]
+    #[error("integer too wide at line {}", .0.0)]
     WideInt(Line),
     /// The line of the outermost `(*` of a comment that is not closed.
-    #[error("line {}: a comment that is not closed", .0.0)]
+    #[error("comment not closed at line {}", .0.0)]
     OpenComment(Line),
     #[error("out of memory")]
     NoMemory,

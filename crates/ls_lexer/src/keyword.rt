@@ -1,10 +1,11 @@
 //! The keywords.
 
 ghost use Rattle.std.specs.Prelude.{◌≡◌};
-ghost use Rattle.ls_lexer.specs.Keywords.{entries, first_in, keyword_of, prefix_of, word_in, words};
+ghost use Rattle.ls_lexer.specs.Keywords.{keyword_of};
+ghost use Rattle.ls_lexer.specs.Letters as spec;
 
 use crate::Fixed;
-use ls_ops::{Op, find_op, prefix};
+use ls_ops::Op;
 
 /// What a keyword is: a token of its own, or the operator that is written before its operands.
 #[derive(Clone, Copy, Debug, PartialEq, Eq)]
@@ -13,86 +14,72 @@ pub enum Keyword {
     Prefix(Op),
 }
 
-/// The number of keywords that are tokens of their own.
-const WORDS: usize = 37;
-
-/// The keyword that a word is, if it is one. Which words are operators before their operands is
-/// told by the operators.
+/// The keyword that a word is, if it is one. A word is compared with the keywords of its first
+/// letter alone, which are five at most.
 pub fn find_keyword(word: &str) -> Option<Keyword>
     ensures { result ≡ keyword_of word.now }
 {
-    match find_prefix(word) {
-        Some(op) => Some(Keyword::Prefix(op)),
-        None => match find_word(word) {
-            Some(fixed) => Some(Keyword::Fixed(fixed)),
-            None => None,
-        },
+    by_letter(word)
+}
+
+fn by_letter(word: &str) -> Option<Keyword>
+    ensures { result ≡ spec.by_letter word.now }
+{
+    match word.as_bytes() {
+        [first, ..] => keyword_from(*first, word),
+        [] => None,
     }
 }
 
-/// The operator that is written before its operands by this word, if there is one.
-fn find_prefix(word: &str) -> Option<Op>
-    ensures { result ≡ prefix_of word.now }
+/// The keywords by their first letters, each with what it is.
+macro_rules! keywords {
+    (@is Fixed $token:ident) => { Keyword::Fixed(Fixed::$token) };
+    (@is Prefix $op:ident) => { Keyword::Prefix(Op::$op) };
+    ($first:expr, $word:expr; $($letter:literal: $($spelling:literal $kind:ident $is:ident),*;)*) => {
+        match $first {
+            $($letter => keyword_in(&[$(($spelling, keywords!(@is $kind $is))),*], $word),)*
+            _ => None,
+        }
+    };
+}
+
+fn keyword_from(first: u8, word: &str) -> Option<Keyword>
+    ensures { result ≡ spec.keyword_from spec.letters first word.now }
 {
-    match find_op(word) {
-        Some(op) => { if prefix(op) { Some(op) } else { None } }
-        None => None,
+    keywords! {
+        first, word;
+        b'a': "and" Fixed KwAnd, "automaton" Fixed KwAutomaton;
+        b'c': "clock" Fixed KwClock, "continue" Fixed KwContinue;
+        b'd': "do" Fixed KwDo, "done" Fixed KwDone;
+        b'e': "else" Fixed KwElse, "emit" Fixed KwEmit, "end" Fixed KwEnd,
+             "every" Fixed KwEvery;
+        b'f': "false" Fixed KwFalse, "fby" Fixed KwFby;
+        b'i': "if" Fixed KwIf, "in" Fixed KwIn, "int_of_char" Prefix IntOfChar,
+             "is_digit" Prefix IsDigit, "is_letter" Prefix IsLetter;
+        b'l': "last" Fixed KwLast, "let" Fixed KwLet;
+        b'm': "match" Fixed KwMatch, "max" Prefix Max, "merge" Fixed KwMerge, "min" Prefix Min,
+             "mod" Fixed KwMod;
+        b'n': "node" Fixed KwNode, "not" Fixed KwNot;
+        b'o': "odd" Prefix Odd, "or" Fixed KwOr;
+        b'p': "pre" Fixed KwPre, "present" Fixed KwPresent;
+        b'r': "rec" Fixed KwRec, "reset" Fixed KwReset, "run" Fixed KwRun;
+        b's': "sign" Prefix Sign;
+        b't': "then" Fixed KwThen, "true" Fixed KwTrue, "type" Fixed KwType;
+        b'u': "unless" Fixed KwUnless, "until" Fixed KwUntil;
+        b'w': "when" Fixed KwWhen, "whenot" Fixed KwWhenot, "where" Fixed KwWhere,
+             "with" Fixed KwWith;
+        b'x': "xor" Fixed KwXor;
     }
 }
 
-fn find_word(word: &str) -> Option<Fixed>
-    ensures { result ≡ word_in words word.now }
+fn keyword_in(rows: &[(&'static str, Keyword)], word: &str) -> Option<Keyword>
+    ensures { result ≡ spec.keyword_in (spec.entries rows.now) word.now }
 {
-    first_in(&all_words(), word)
+    first_in(rows, word)
 }
 
-fn first_in(rows: &[(&'static str, Fixed); WORDS], word: &str) -> Option<Fixed>
-    ensures { result ≡ first_in rows.now word.now }
+fn first_in(rows: &[(&'static str, Keyword)], word: &str) -> Option<Keyword>
+    ensures { result ≡ spec.first_in rows.now word.now }
 {
     rows.iter().find(|row| row.0 == word).map(|row| row.1)
-}
-
-/// The keywords that are tokens of their own.
-fn all_words() -> [(&'static str, Fixed); WORDS]
-    ensures { entries result ≡ words }
-{
-    [
-        ("and", Fixed::KwAnd),
-        ("automaton", Fixed::KwAutomaton),
-        ("clock", Fixed::KwClock),
-        ("continue", Fixed::KwContinue),
-        ("do", Fixed::KwDo),
-        ("done", Fixed::KwDone),
-        ("else", Fixed::KwElse),
-        ("emit", Fixed::KwEmit),
-        ("end", Fixed::KwEnd),
-        ("every", Fixed::KwEvery),
-        ("false", Fixed::KwFalse),
-        ("fby", Fixed::KwFby),
-        ("if", Fixed::KwIf),
-        ("in", Fixed::KwIn),
-        ("last", Fixed::KwLast),
-        ("let", Fixed::KwLet),
-        ("match", Fixed::KwMatch),
-        ("merge", Fixed::KwMerge),
-        ("mod", Fixed::KwMod),
-        ("node", Fixed::KwNode),
-        ("not", Fixed::KwNot),
-        ("or", Fixed::KwOr),
-        ("pre", Fixed::KwPre),
-        ("present", Fixed::KwPresent),
-        ("rec", Fixed::KwRec),
-        ("reset", Fixed::KwReset),
-        ("run", Fixed::KwRun),
-        ("then", Fixed::KwThen),
-        ("true", Fixed::KwTrue),
-        ("type", Fixed::KwType),
-        ("unless", Fixed::KwUnless),
-        ("until", Fixed::KwUntil),
-        ("when", Fixed::KwWhen),
-        ("whenot", Fixed::KwWhenot),
-        ("where", Fixed::KwWhere),
-        ("with", Fixed::KwWith),
-        ("xor", Fixed::KwXor),
-    ]
 }

@@ -8,8 +8,6 @@ mod piece;
 mod reading;
 mod scan;
 mod symbol;
-#[cfg(test)]
-mod tests;
 mod token;
 
 pub use fault::LexFault;

@@ -8,8 +8,7 @@ mod results;
 mod symbols;
 
 pub use kinds::{Alarm, Op, OpSign};
-pub use operators::{eval, find_op, prefix, sign_of, symbol};
-pub use symbols::OpTable;
+pub use operators::{eval, evaluate, find_op, prefix, sign_of, symbol};
 
 #[cfg(test)]
 mod tests;

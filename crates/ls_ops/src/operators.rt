@@ -11,8 +11,8 @@ ghost use Rattle.ls_value.specs.declared.leaf.Shape.{Shape};
 
 use crate::operands::{bool_of, bools_of, char_of, choice_of, int_of, ints_of, same_of};
 use crate::results::{int, is_digit, is_letter, quotient, remainder, truth};
-use crate::symbols::OPERATORS;
-use crate::{Alarm, Op, OpSign, OpTable};
+use crate::symbols::{OPERATORS, OpTable};
+use crate::{Alarm, Op, OpSign};
 use ls_value::Leaf;
 
 /// The operators, a row for each: its symbol, whether it stands before or between its operands,
@@ -84,7 +84,9 @@ pub fn eval(op: Op, args: &[Leaf]) -> (Leaf, Alarm)
     evaluate(op, args)
 }
 
-fn evaluate(op: Op, args: &[Leaf]) -> (Leaf, Alarm)
+/// The total form of `eval`: on operands that the operator does not take, the value is Nil. An
+/// alarm comes only of a division, or a remainder, of two integers of which the second is zero.
+pub fn evaluate(op: Op, args: &[Leaf]) -> (Leaf, Alarm)
     ensures value { result.0 ≡ value_of op args.now }
     ensures alarm { result.1 ≡ (if alarm_of op args.now then Alarm.Division else Alarm.None) }
 {

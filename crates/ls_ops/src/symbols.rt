@@ -8,18 +8,18 @@ ghost use Rattle.ls_ops.specs.Symbols.{are_distinct, entries, first_with};
 use crate::Op;
 
 /// The number of operators.
-pub const OPERATORS: usize = 24;
+pub(crate) const OPERATORS: usize = 24;
 
 /// Operators with their symbols, of which no two are the same.
 #[derive(Drop)]
-pub struct OpTable<const N: usize> {
-    pub rows: [(Op, &'static str); N],
+pub(crate) struct OpTable<const N: usize> {
+    pub(crate) rows: [(Op, &'static str); N],
     ghost distinct: { IsTrue (are_distinct rows) },
 }
 
 impl OpTable<OPERATORS> {
     /// The operator that stands beside a symbol.
-    pub fn find(&self, symbol: &str) -> Option<Op>
+    pub(crate) fn find(&self, symbol: &str) -> Option<Op>
         ensures { (op : Op) → (result ≡ Some op) ↔ Contains (entries self.now.rows) (op, symbol.now) }
     {
         self.first(symbol)

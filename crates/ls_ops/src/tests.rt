@@ -1,4 +1,4 @@
-use crate::{Alarm, Op, OpSign, eval, find_op, prefix, sign_of, symbol};
+use crate::{Alarm, Op, OpSign, eval, evaluate, find_op, prefix, sign_of, symbol};
 use ls_value::{Glyph, Leaf, Text};
 use std::test::Fail;
 
@@ -108,6 +108,12 @@ fn other_values(rt: HostRuntime) -> Result<(), Fail> {
     assert!(rt;
         matches!(
             eval(Op::Choose, &[Leaf::Bool(true), text, Leaf::Nil]),
+            (Leaf::Nil, Alarm::None)
+        )
+    );
+    assert!(rt;
+        matches!(
+            evaluate(Op::Rem, &[Leaf::Int(7), Leaf::Unit]),
             (Leaf::Nil, Alarm::None)
         )
     );

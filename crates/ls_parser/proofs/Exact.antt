@@ -8,7 +8,7 @@ use Rattle.ls_base.specs.declared.Line.{Line}
 use Rattle.ls_lexer.specs.declared.token.Token.{Token}
 use Rattle.ls_parser.specs.declared.definitions.SyntaxFault.{SyntaxFault}
 use Rattle.ls_parser.specs.declared.definitions.SyntaxFault.TheVariants as fault
-use Rattle.ls_parser.specs.Answers.{IfSyntax, IsAnswer}
+use Rattle.ls_parser.specs.Answers.{IfSyntax, IsAnswer, IsSyntaxAt}
 use Rattle.ls_parser.specs.Definitions as r
 use Rattle.ls_parser.specs.Definitions.{IsRead}
 use Rattle.ls_parser.specs.Grammar.{IsDefinition, MayFollow, IsRow, IsFile, StopsAt, NoneBegins}
@@ -44,13 +44,18 @@ module _ (all : List (Line × Token)) where
       let l5 : length all - length (words back) ≡ a + length (t ∷ front) = omega arith in
       ap (λ k. drop k all) l5 ∙ sym (drop-drop (length (t ∷ front)) a all) ∙ ap (drop (length (t ∷ front))) (sym is) ∙ drop_at (t ∷ front) back (length (t ∷ front)) refl
 
-  file_found : (defs : List (DefOf Plain)) (k : ℕ) (done : List (DefOf Plain)) (ts : List (Line × Token)) (a : ℕ) → ts ≡ drop a all → length ts ≤ k → IsRow defs ts [] → r.file_from all k done ts ≡ Ok (done ++ defs)
-  file_found [] zero done ts a is few row = (λ i. Ok (sym (append_nil done) i))
-  file_found [] (suc k) done ts a is few row = ap (λ ts. r.file_from all (suc k) done ts) row ∙ (λ i. Ok (sym (append_nil done) i))
-  file_found (d ∷ ds) k done ts a is few row = step (file_found ds) row.0 row.1 row.2 row.3 row.4 row.5 k few
+  -- what is read of a row of definitions before what is left, where that is known of what is left alone
+  row_found : (left : List (Line × Token)) (out : List (DefOf Plain) → Result (List (DefOf Plain)) Line)
+      → ((k : ℕ) (done : List (DefOf Plain)) (a : ℕ) → left ≡ drop a all → length left ≤ k → r.file_from all k done left ≡ out done)
+      → (defs : List (DefOf Plain)) (k : ℕ) (done : List (DefOf Plain)) (ts : List (Line × Token)) (a : ℕ) → ts ≡ drop a all → length ts ≤ k → IsRow defs ts left → r.file_from all k done ts ≡ out (done ++ defs)
+  row_found left out end [] k done ts a is few row =
+      ap (λ ts. r.file_from all k done ts) row
+      ∙ end k done a (sym row ∙ is) (subst (λ ts. length ts ≤ k) row few)
+      ∙ ap out (sym (append_nil done))
+  row_found left out end (d ∷ ds) k done ts a is few row = step (row_found left out end ds) row.0 row.1 row.2 row.3 row.4 row.5 k few
     where
-      step : ((k : ℕ) (done : List (DefOf Plain)) (ts : List (Line × Token)) (a : ℕ) → ts ≡ drop a all → length ts ≤ k → IsRow ds ts [] → r.file_from all k done ts ≡ Ok (done ++ ds))
-          → (front back : List (Line × Token)) → ts ≡ front ++ back → IsDefinition d front → MayFollow back → IsRow ds back [] → (k : ℕ) → length ts ≤ k → r.file_from all k done ts ≡ Ok (done ++ d ∷ ds)
+      step : ((k : ℕ) (done : List (DefOf Plain)) (ts : List (Line × Token)) (a : ℕ) → ts ≡ drop a all → length ts ≤ k → IsRow ds ts left → r.file_from all k done ts ≡ out (done ++ ds))
+          → (front back : List (Line × Token)) → ts ≡ front ++ back → IsDefinition d front → MayFollow back → IsRow ds back left → (k : ℕ) → length ts ≤ k → r.file_from all k done ts ≡ out (done ++ d ∷ ds)
       step ih [] back split one next more k few = absurd one
       step ih (t ∷ front) back split one next more zero few =
           let l : length ts ≡ length ((t ∷ front) ++ back) = ap length split in
@@ -67,10 +72,33 @@ module _ (all : List (Line × Token)) where
           ∙ ap (λ p. unwrap_or (option_map (λ z. r.file_from all k (done ++ z.0 ∷ []) (drop (length all - length z.1) all)) p) (Err t.0)) (one_found d t front back one next (suffix_short a ((t ∷ front) ++ back) here))
           ∙ ap (λ ts. r.file_from all k (done ++ d ∷ []) ts) place
           ∙ ih k (done ++ d ∷ []) back (length all - length (words back)) (sym place) less more
-          ∙ (λ i. Ok (append_assoc done (d ∷ []) ds i))
+          ∙ ap out (append_assoc done (d ∷ []) ds)
+
+  at_end : (k : ℕ) (done : List (DefOf Plain)) (a : ℕ) → [] ≡ drop a all → length {A = Line × Token} [] ≤ k → r.file_from all k done [] ≡ Ok done
+  at_end zero done a is few = refl
+  at_end (suc k) done a is few = refl
 
   whole_found : (defs : List (DefOf Plain)) → IsFile defs all → r.file_from all (length all) [] all ≡ Ok defs
-  whole_found defs file = file_found defs (length all) [] all 0 refl (le_refl (length all)) file
+  whole_found defs file = row_found [] Ok at_end defs (length all) [] all 0 refl (le_refl (length all)) file
+
+  -- where no definition begins, what the rest of the file is
+  only_err : (done : List (DefOf Plain)) (t : Line × Token) (left : List (Line × Token)) → NoneBegins (t ∷ left) → (out : Result (List (DefOf Plain)) Line) → Outcome all done (t ∷ left) out → out ≡ Err t.0
+  only_err done t left none (Ok defs) ([], is, row) = absurd (cc)
+  only_err done t left none (Ok defs) (d ∷ ds, is, row) = absurd (none d row.0 row.1 row.2 row.3 row.4)
+  only_err done t left none (Err line) ([], u, back, at, row, unread, few) =
+      let same : u ≡ t = cc in
+      ap Err (sym at ∙ ap (λ (t : Line × Token). t.0) same)
+  only_err done t left none (Err line) (d ∷ ds, u, back, at, row, unread, few) = absurd (none d row.0 row.1 row.2 row.3 row.4)
+
+  at_stop : (t : Line × Token) (left : List (Line × Token)) → NoneBegins (t ∷ left)
+      → (k : ℕ) (done : List (DefOf Plain)) (a : ℕ) → t ∷ left ≡ drop a all → length (t ∷ left) ≤ k → r.file_from all k done (t ∷ left) ≡ Err t.0
+  at_stop t left none k done a is few =
+      only_err done t left none (r.file_from all k done (t ∷ left)) (file_read all k done (t ∷ left) a is few (r.file_from all k done (t ∷ left)) refl)
+
+  stop_found : (line : Line) → StopsAt all line → r.file_from all (length all) [] all ≡ Err line
+  stop_found line (defs, t, left, at, row, none) =
+      row_found (t ∷ left) (λ done. Err t.0) (at_stop t left none) defs (length all) [] all 0 refl (le_refl (length all)) row
+      ∙ ap Err at
 
   ok_one : {X : Type 0} (a b : X) → ◌≡◌ {A = Result X Line} (Ok a) (Ok b) → a ≡ b
   ok_one a b e = cc
@@ -78,10 +106,18 @@ module _ (all : List (Line × Token)) where
   err_ok : (defs : List (DefOf Plain)) (line : Line) → ◌≡◌ {A = Result (List (DefOf Plain)) Line} (Err line) (Ok defs) → ⊥
   err_ok defs line e = cc
 
+  err_one : (a b : Line) → ◌≡◌ {A = Result (List (DefOf Plain)) Line} (Err a) (Err b) → a ≡ b
+  err_one a b e = cc
+
   pub answer_is : (result : Result (List (DefOf Plain)) SyntaxFault) → IsRead result (r.file_from all (length all) [] all) → (defs : List (DefOf Plain)) → IsFile defs all → IsAnswer {X = List (DefOf Plain)} (λ ds. ds) result defs
   answer_is (Ok found) e defs file = ok_one found defs (sym e ∙ whole_found defs file)
   answer_is (Err (fault.Syntax line)) e defs file = err_ok defs line (sym e ∙ whole_found defs file)
   answer_is (Err fault.NoMemory) e defs file = tt
+
+  pub stop_is : (result : Result (List (DefOf Plain)) SyntaxFault) → IsRead result (r.file_from all (length all) [] all) → (line : Line) → StopsAt all line → IsSyntaxAt result line
+  stop_is (Ok defs) e line stop = err_ok defs line (sym (stop_found line stop) ∙ e)
+  stop_is (Err (fault.Syntax found)) e line stop = err_one found line (sym e ∙ stop_found line stop)
+  stop_is (Err fault.NoMemory) e line stop = tt
 
   none_begins : (t : Line × Token) (left : List (Line × Token)) → length (t ∷ left) ≤ length all → r.followed (length all) t.0 (words (t ∷ left)) ≡ None → NoneBegins (t ∷ left)
   none_begins t left few none d [] back split one next = absurd one
@@ -104,3 +140,11 @@ module _ (all : List (Line × Token)) where
 -- a row of tokens is at most one file
 pub one_tree : (ts : List (Line × Token)) (a b : List (DefOf Plain)) → IsFile a ts → IsFile b ts → a ≡ b
 one_tree ts a b p q = ok_one ts a b (sym (whole_found ts a p) ∙ whole_found ts b q)
+
+-- a row of tokens stops in at most one line
+pub one_stop : (ts : List (Line × Token)) (a b : Line) → StopsAt ts a → StopsAt ts b → a ≡ b
+one_stop ts a b p q = err_one ts a b (sym (stop_found ts a p) ∙ stop_found ts b q)
+
+-- and in none where it is a file
+pub no_file : (ts : List (Line × Token)) (defs : List (DefOf Plain)) (line : Line) → IsFile defs ts → StopsAt ts line → ⊥
+no_file ts defs line p q = err_ok ts defs line (sym (stop_found ts line q) ∙ whole_found ts defs p)

@@ -12,12 +12,13 @@ use Rattle.ls_ast.specs.declared.tree.Plain.{Plain}
 use Rattle.ls_ast.specs.declared.tree.State.{State}
 use Rattle.ls_ast.specs.declared.tree.Test.{Test}
 use Rattle.ls_base.specs.declared.Name.{Name}
+use Rattle.ls_base.specs.declared.TheConstants.Name.{FALSE, TRUE}
 use Rattle.ls_lexer.specs.declared.token.Fixed.{Fixed}
 use Rattle.ls_lexer.specs.declared.token.Fixed.TheVariants.{KwAnd, KwAutomaton, KwClock, KwContinue, KwDo, KwDone, KwElse, KwEmit, KwEnd, KwEvery, KwFalse, KwIn, KwLast, KwLet, KwMatch, KwPresent, KwRec, KwReset, KwThen, KwTrue, KwUnless, KwUntil, KwWith, ParenLeft, ParenRight, Comma, Equal, Arrow, Bar, Underscore}
 use Rattle.ls_lexer.specs.declared.token.Token.{Token}
 use Rattle.ls_lexer.specs.declared.token.Token.TheVariants.{Fixed as Word, Cons}
 use Rattle.ls_parser.specs.declared.level.Level.TheVariants.{Expr}
-use Rattle.ls_parser.specs.Making.{Tree, guard, arm_of, arms_of, test_of, state_of, state_with, handler_of, handler_with, guards_that, with_strong, with_weak, or_none, true_name, false_name}
+use Rattle.ls_parser.specs.Making.{Tree, guard, arm_of, arms_of, test_of, state_of, state_with, handler_of, handler_with, guards_that, with_strong, with_weak, or_none}
 use Rattle.ls_parser.specs.Notation.{Phrase, ◌▷◌, ◌◁◌, ◌⊗◌, ◌⇒◌, many, some, separated, maybe, after, identifier, constructor}
 use Rattle.ls_parser.specs.Grammar as g
 use Rattle.ls_parser.specs.Grammar.{IsExpr, IsPat, IsEquation, IsHandler}
@@ -151,8 +152,8 @@ case_of_token t x ts m is e = (t ∷ [], is, named t x e)
   where
     named : (t : Token) (x : Name) → r.case_of t ≡ Some x → g.case_name x (t ∷ [])
     named (Cons k) x e = inl (ap (λ y. Cons y ∷ []) (some_one k x e))
-    named (Word KwTrue) x e = inr (inl (sym (some_one true_name x e), refl))
-    named (Word KwFalse) x e = inr (inr (sym (some_one false_name x e), refl))
+    named (Word KwTrue) x e = inr (inl (sym (some_one TRUE x e), refl))
+    named (Word KwFalse) x e = inr (inr (sym (some_one FALSE x e), refl))
     named _ x e = absurd (none_some x e)
 
 case_name_at : (ts : List Token) (p : Name × List Token) → r.case_name ts ≡ Some p → At g.case_name p.0 ts p.1

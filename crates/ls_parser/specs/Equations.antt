@@ -10,13 +10,14 @@ use Rattle.ls_ast.specs.declared.tree.Plain.{Plain}
 use Rattle.ls_ast.specs.declared.tree.State.{State}
 use Rattle.ls_ast.specs.declared.tree.Test.{Test}
 use Rattle.ls_base.specs.declared.Name.{Name}
+use Rattle.ls_base.specs.declared.TheConstants.Name.{FALSE, TRUE}
 use Rattle.ls_lexer.specs.declared.token.Fixed.{Fixed}
 use Rattle.ls_lexer.specs.declared.token.Fixed.TheVariants.{KwAnd, KwAutomaton, KwClock, KwContinue, KwDo, KwDone, KwElse, KwEmit, KwEnd, KwEvery, KwFalse, KwIn, KwLast, KwLet, KwMatch, KwPresent, KwRec, KwReset, KwThen, KwTrue, KwUnless, KwUntil, KwWith, ParenLeft, ParenRight, Equal, Arrow, Bar, Underscore}
 use Rattle.ls_lexer.specs.declared.token.Token.{Token}
 use Rattle.ls_lexer.specs.declared.token.Token.TheVariants.{Fixed as Word, Id, Cons}
 use Rattle.ls_parser.specs.declared.level.Level.TheVariants.{Expr}
 use Rattle.ls_parser.specs.Expressions.{expression}
-use Rattle.ls_parser.specs.Making.{Tree, guard, arm_of, test_of, state_with, handler_with, with_strong, with_weak, true_name, false_name}
+use Rattle.ls_parser.specs.Making.{Tree, guard, arm_of, test_of, state_with, handler_with, with_strong, with_weak}
 use Rattle.ls_parser.specs.Patterns.{pattern}
 use Rattle.ls_parser.specs.Reading.{◌>>=◌, Reader, uncons, starts, is_word, word, name, constructor, taller, behind, collect}
 
@@ -27,8 +28,8 @@ skip w (t ∷ ts) = if is_word w t then ts else t ∷ ts
 
 abbrev pub case_of : Token → Option Name
 case_of (Cons x) = Some x
-case_of (Word KwTrue) = Some true_name
-case_of (Word KwFalse) = Some false_name
+case_of (Word KwTrue) = Some TRUE
+case_of (Word KwFalse) = Some FALSE
 case_of _ = None
 
 -- the name of an arm's case, and what stands behind it
@@ -183,3 +184,7 @@ unfoldable mutual
   pub doing_at : ℕ → ℕ → Reader (Handler Plain)
   doing_at n zero ts = None
   doing_at n (suc depth) ts = doing n (expression n depth Expr) (pattern n depth) (equation_at n depth) (doing_at n depth) ts
+
+-- what a reader makes of readers of the parts, which nest up to a depth, given the number of all tokens
+abbrev pub of_parts : {X : Type 0} → ℕ → (ℕ → Reader Tree → Reader Pat → (Bool → Reader (Equation Plain)) → Reader (Handler Plain) → X) → ℕ → X
+of_parts depth reader n = reader n (expression n depth Expr) (pattern n depth) (equation_at n depth) (doing_at n depth)

@@ -19,6 +19,7 @@ use Rattle.ls_ast.specs.declared.tree.State.{State}
 use Rattle.ls_ast.specs.declared.tree.Test.{Test}
 use Rattle.ls_base.specs.declared.Line.{Line}
 use Rattle.ls_base.specs.declared.Name.{Name}
+use Rattle.ls_base.specs.declared.TheConstants.Name.{FALSE, TRUE}
 use Rattle.ls_lexer.specs.declared.token.Fixed.{Fixed}
 use Rattle.ls_lexer.specs.declared.token.Fixed.TheVariants.{KwAnd, KwAutomaton, KwClock, KwContinue, KwDo, KwDone, KwElse, KwEmit, KwEnd, KwEvery, KwFalse, KwIf, KwIn, KwLast, KwLet, KwMatch, KwMerge, KwNode, KwNot, KwPre, KwPresent, KwRec, KwReset, KwRun, KwThen, KwTrue, KwType, KwUnless, KwUntil, KwWhere, KwWith, ParenLeft, ParenRight, Comma, Equal, Minus, Arrow, Bar, Question, Underscore}
 use Rattle.ls_lexer.specs.declared.token.Token.{Token}
@@ -31,7 +32,7 @@ use Rattle.ls_parser.specs.declared.level.Level.TheVariants.{Expr, Delay, Unary,
 use Rattle.ls_parser.specs.declared.level.Infix.{Infix}
 use Rattle.ls_parser.specs.declared.level.Infix.TheVariants as between
 use Rattle.ls_parser.specs.Levels.{rank, left, right, infix_of, level_of}
-use Rattle.ls_parser.specs.Making.{Tree, node, constant, chosen, unary, binary, previous, called, merged, operands, simple, guard, arm_of, arms_of, test_of, state_of, handler_of, body_of, definition, true_name, false_name}
+use Rattle.ls_parser.specs.Making.{Tree, node, constant, chosen, unary, binary, previous, called, merged, operands, simple, guard, arm_of, arms_of, test_of, state_of, handler_of, body_of, definition}
 use Rattle.ls_parser.specs.Notation.{Phrase, ◌▷◌, ◌◁◌, ◌⊗◌, ◌⇒◌, ◌or◌, many, some, separated, maybe, after, identifier, constructor}
 
 -- one token, of which something is made
@@ -132,7 +133,7 @@ equations Q = separated KwAnd Q
 
 -- the name of an arm's case
 abbrev pub case_name : Phrase Name
-case_name = constructor or sole KwTrue true_name or sole KwFalse false_name
+case_name = constructor or sole KwTrue TRUE or sole KwFalse FALSE
 
 -- a guard of a state, by the word that begins it: the state is left where the condition is true, for a state that is entered anew by `then`
 abbrev pub guarded : Phrase Tree → Fixed → Phrase (Guard Plain)

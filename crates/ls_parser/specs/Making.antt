@@ -100,13 +100,6 @@ operands_of sign.Choice = 3
 abbrev pub operands : Op → ℕ
 operands op = operands_of (signature_of op)
 
--- `true` and `false` as names, which stand first among the names of a file
-abbrev pub true_name : Name
-true_name = record { 0 = 1 }
-
-abbrev pub false_name : Name
-false_name = record { 0 = 0 }
-
 -- a guard of a parsed tree, which has no equations
 abbrev pub guard : Tree → Bool → Name → Guard Plain
 guard cond restart target = record { eqs = []; cond = cond; restart = restart; target = target }

@@ -1,5 +1,5 @@
 -- What is read at the front of the tokens: the value, its height, and the tokens behind it.
-use Rattle.std.specs.Prelude.{◌≡◌, ℕ, zero, suc, ◌+◌, List, [], ◌∷◌, ◌++◌, Option, Some, None, Bool, false, Result, Ok, Err, map, drop, max, nat_lt, option_and_then, if◌then◌else◌}
+use Rattle.std.specs.Prelude.{◌≡◌, ℕ, zero, suc, ◌+◌, List, [], ◌∷◌, ◌++◌, Option, Some, None, Bool, false, Result, Ok, Err, map, drop, length, max, nat_lt, option_and_then, if◌then◌else◌}
 use denote.Enum.Bare.{sameb}
 use Rattle.ls_base.specs.declared.Line.{Line}
 use Rattle.ls_base.specs.declared.Name.{Name}
@@ -30,6 +30,14 @@ Gives view (Err e) read = Stops e read
 -- a value, its height and the place behind it, seen as what is read
 abbrev pub seen : {A : Type 0} → List (Line × Token) → (A × ℕ × ℕ) → (A × ℕ × List Token)
 seen tokens x = (x.0, x.1, rest tokens x.2)
+
+-- what a function that reads at a place returned is what a reader reads there, given the number of all tokens
+abbrev pub Reads : {A : Type 0} → List (Line × Token) → ℕ → Result (A × ℕ × ℕ) Stop → (ℕ → List Token → Option (A × ℕ × List Token)) → Type 0
+Reads tokens at result reader = Gives (λ x. seen tokens x) result (reader (length tokens) (rest tokens at))
+
+-- the same of what is read without a height
+abbrev pub Takes : {A : Type 0} → List (Line × Token) → ℕ → Result (A × ℕ) Stop → (List Token → Option (A × List Token)) → Type 0
+Takes tokens at result reader = Gives (λ p. (p.0, rest tokens p.1)) result (reader (rest tokens at))
 
 -- the first token, and the others
 abbrev pub uncons : List Token → Option (Token × List Token)

@@ -1,8 +1,8 @@
 //! Places in the tokens, and single tokens.
 
-ghost use Rattle.std.specs.Prelude.{◌≡◌, ◌+◌, ◌≤◌, ◌<◌, Some, length, Ok, Err, IfSome};
+ghost use Rattle.std.specs.Prelude.{◌≡◌};
 ghost use Rattle.std.specs.Option.{option_map};
-ghost use Rattle.ls_parser.specs.Reading.{rest, uncons, is_word, starts, Gives};
+ghost use Rattle.ls_parser.specs.Reading.{rest, uncons, starts, Gives, Takes};
 ghost use Rattle.ls_parser.specs.Reading as spec;
 ghost use Rattle.ls_parser.specs.declared.cursor.Stop.TheVariants.{NoMemory as Refused};
 
@@ -11,18 +11,18 @@ use ls_lexer::{Fixed, Token};
 use std::alloc::{AllocError, Global};
 
 /// The greatest height of a definition.
-pub const LIMIT: u32 = 200;
+pub(crate) const LIMIT: u32 = 200;
 
 /// Why reading stopped.
 #[derive(Clone, Copy, Debug, PartialEq, Eq)]
-pub enum Stop {
+pub(crate) enum Stop {
     /// What stands there is not what should.
     Fault,
     NoMemory,
 }
 
 /// What was read: a value, its height, and the place behind it.
-pub type Read<T> = Result<(T, u32, usize), Stop>;
+pub(crate) type Read<T> = Result<(T, u32, usize), Stop>;
 
 impl From<NoMemory> for Stop {
     ghost from_gives = { λ _ e. e ≡ Refused };
@@ -43,15 +43,15 @@ impl From<AllocError> for Stop {
 /// The tokens that are read, and the memory for what is read. A function that reads takes the
 /// place where it begins, and answers the place behind.
 #[derive(Drop)]
-pub struct Parser<'a> {
-    pub alloc: Global,
-    pub tokens: &'a [(Line, Token)],
+pub(crate) struct Parser<'a> {
+    pub(crate) alloc: Global,
+    pub(crate) tokens: &'a [(Line, Token)],
 }
 
 impl Parser<'_> {
     /// The token at a place, and the next place.
     #[tactic(auto, unfolding(crate::specs::Reading::rest))]
-    pub fn next(&self, at: usize) -> Option<(Token, usize)>
+    pub(crate) fn next(&self, at: usize) -> Option<(Token, usize)>
         ensures { option_map (λ p. (p.0, rest self.now.tokens.now p.1)) result ≡ uncons (rest self.now.tokens.now at) }
     {
         match self.tokens.get(at) {
@@ -62,7 +62,7 @@ impl Parser<'_> {
 
     /// Whether a word stands at a place.
     #[tactic(auto, unfolding(crate::specs::Reading::starts))]
-    pub fn is(&self, at: usize, word: Fixed) -> bool
+    pub(crate) fn is(&self, at: usize, word: Fixed) -> bool
         ensures { result ≡ starts word (rest self.now.tokens.now at) }
     {
         match self.next(at) {
@@ -73,7 +73,7 @@ impl Parser<'_> {
 
     /// The place behind a word.
     #[tactic(auto, unfolding(crate::specs::Reading::word))]
-    pub fn word(&self, at: usize, word: Fixed) -> Result<usize, Stop>
+    pub(crate) fn word(&self, at: usize, word: Fixed) -> Result<usize, Stop>
         ensures { Gives (λ at. rest self.now.tokens.now at) result (spec.word word (rest self.now.tokens.now at)) }
     {
         match self.next(at) {
@@ -84,8 +84,8 @@ impl Parser<'_> {
 
     /// An identifier.
     #[tactic(auto, unfolding(crate::specs::Reading::name))]
-    pub fn name(&self, at: usize) -> Result<(Name, usize), Stop>
-        ensures { Gives (λ p. (p.0, rest self.now.tokens.now p.1)) result (spec.name (rest self.now.tokens.now at)) }
+    pub(crate) fn name(&self, at: usize) -> Result<(Name, usize), Stop>
+        ensures { Takes self.now.tokens.now at result spec.name }
     {
         match self.next(at) {
             Some((Token::Id(name), at)) => Ok((name, at)),
@@ -95,8 +95,8 @@ impl Parser<'_> {
 
     /// A constructor.
     #[tactic(auto, unfolding(crate::specs::Reading::constructor))]
-    pub fn constructor(&self, at: usize) -> Result<(Name, usize), Stop>
-        ensures { Gives (λ p. (p.0, rest self.now.tokens.now p.1)) result (spec.constructor (rest self.now.tokens.now at)) }
+    pub(crate) fn constructor(&self, at: usize) -> Result<(Name, usize), Stop>
+        ensures { Takes self.now.tokens.now at result spec.constructor }
     {
         match self.next(at) {
             Some((Token::Cons(name), at)) => Ok((name, at)),
@@ -106,7 +106,7 @@ impl Parser<'_> {
 }
 
 /// One more than a height.
-pub fn taller(height: u32) -> Result<u32, Stop>
+pub(crate) fn taller(height: u32) -> Result<u32, Stop>
     ensures { Gives (λ h. h) result (spec.taller height) }
 {
     if height < LIMIT {

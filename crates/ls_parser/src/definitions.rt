@@ -2,11 +2,12 @@
 
 ghost use Rattle.std.specs.Prelude.{◌≡◌, ◌+◌, ◌≤◌, ◌<◌, List, [], map, drop, length, IfOk};
 ghost use Rattle.std.specs.Option.{option_map};
-ghost use Rattle.ls_parser.specs.Answers.{IfSyntax, IsAnswer};
+ghost use Rattle.ls_parser.specs.Answers.{IfSyntax, IsAnswer, IsSyntaxAt};
 ghost use Rattle.ls_ast.specs.declared.tree.DefOf.{DefOf};
 ghost use Rattle.ls_ast.specs.declared.tree.Plain.{Plain};
+ghost use Rattle.ls_base.specs.declared.Line.{Line};
 ghost use Rattle.ls_parser.specs.Grammar.{IsFile, StopsAt};
-ghost use Rattle.ls_parser.specs.Reading.{rest, seen, Gives};
+ghost use Rattle.ls_parser.specs.Reading.{rest, Reads};
 ghost use Rattle.ls_parser.specs.Definitions as spec;
 ghost use Rattle.ls_parser.specs.declared.definitions.SyntaxFault.TheVariants.{NoMemory as Refused};
 ghost use Rattle.ls_parser.specs.Making.{plain};
@@ -77,7 +78,7 @@ impl Parser<'_> {
     // A constructor, which has no height.
     #[tactic(auto, unfolding(crate::specs::Definitions::case_alone))]
     fn case_alone(&self, at: usize) -> Read<Name>
-        ensures { Gives (λ x. seen self.now.tokens.now x) result (spec.case_alone (rest self.now.tokens.now at)) }
+        ensures { Reads self.now.tokens.now at result (λ _. spec.case_alone) }
     {
         let (name, at) = self.constructor(at)?;
         Ok((name, 0, at))
@@ -86,7 +87,7 @@ impl Parser<'_> {
     // The constructors of a type.
     #[tactic(auto, unfolding(crate::specs::Definitions::cases))]
     fn cases(&self, at: usize) -> Read<List<Name>>
-        ensures { Gives (λ x. seen self.now.tokens.now x) result (spec.cases (length self.now.tokens.now) (rest self.now.tokens.now at)) }
+        ensures { Reads self.now.tokens.now at result spec.cases }
     {
         let (first, height, next) = self.case_alone(at)?;
         let mut items = List::new(self.alloc);
@@ -109,7 +110,7 @@ impl Parser<'_> {
     // `type t = A | B`
     #[tactic(auto, unfolding(crate::specs::Definitions::enumeration))]
     fn enumeration(&self, line: Line, at: usize) -> Read<DefOf<Plain>>
-        ensures { Gives (λ x. seen self.now.tokens.now x) result (spec.enumeration (length self.now.tokens.now) line (rest self.now.tokens.now at)) }
+        ensures { Reads self.now.tokens.now at result (λ n. spec.enumeration n line) }
     {
         let at = self.word(at, Fixed::KwType)?;
         let (name, at) = self.name(at)?;
@@ -123,7 +124,7 @@ impl Parser<'_> {
     // The equations behind `where`, if any.
     #[tactic(auto, unfolding(crate::specs::Definitions::conditions))]
     fn conditions(&self, at: usize, depth: u32) -> Read<List<Equation<Plain>>>
-        ensures { Gives (λ x. seen self.now.tokens.now x) result (spec.conditions (length self.now.tokens.now) depth (rest self.now.tokens.now at)) }
+        ensures { Reads self.now.tokens.now at result (λ n. spec.conditions n depth) }
     {
         if self.is(at, Fixed::KwWhere) {
             let at = self.word(at, Fixed::KwWhere)?;
@@ -137,7 +138,7 @@ impl Parser<'_> {
     // The body of a definition.
     #[tactic(auto, unfolding(crate::specs::Definitions::body))]
     fn body(&self, at: usize, depth: u32) -> Read<BodyOf<Plain>>
-        ensures { Gives (λ x. seen self.now.tokens.now x) result (spec.body (length self.now.tokens.now) depth (rest self.now.tokens.now at)) }
+        ensures { Reads self.now.tokens.now at result (λ n. spec.body n depth) }
     {
         let (result, first, at) = self.phrase(Level::Expr, at, depth)?;
         let (eqs, second, at) = self.conditions(at, depth)?;
@@ -148,7 +149,7 @@ impl Parser<'_> {
     // The parameters of a definition.
     #[tactic(auto, unfolding(crate::specs::Definitions::params))]
     fn params(&self, at: usize, depth: u32) -> Read<List<Pat>>
-        ensures { Gives (λ x. seen self.now.tokens.now x) result (spec.params (length self.now.tokens.now) depth (rest self.now.tokens.now at)) }
+        ensures { Reads self.now.tokens.now at result (λ n. spec.params n depth) }
     {
         let mut params = List::new(self.alloc);
         let mut highest = 0;
@@ -169,7 +170,7 @@ impl Parser<'_> {
     #[tactic(auto, unfolding(crate::specs::Definitions::function))]
     fn function(&self, node: bool, line: Line, at: usize, depth: u32) -> Read<DefOf<Plain>>
         requires { 0 < depth }
-        ensures { Gives (λ x. seen self.now.tokens.now x) result (spec.function (length self.now.tokens.now) depth node line (rest self.now.tokens.now at)) }
+        ensures { Reads self.now.tokens.now at result (λ n. spec.function n depth node line) }
     {
         let (name, at) = self.name(at)?;
         let (params, first, at) = self.params(at, depth)?;
@@ -200,7 +201,7 @@ impl Parser<'_> {
     #[tactic(auto, unfolding(crate::specs::Definitions::definition_at))]
     fn definition(&self, line: Line, at: usize, depth: u32) -> Read<DefOf<Plain>>
         requires { 0 < depth }
-        ensures { Gives (λ x. seen self.now.tokens.now x) result (spec.definition_at (length self.now.tokens.now) depth line (rest self.now.tokens.now at)) }
+        ensures { Reads self.now.tokens.now at result (λ n. spec.definition_at n depth line) }
     {
         if self.is(at, Fixed::KwType) {
             return self.enumeration(line, at);
@@ -273,10 +274,11 @@ impl Parser<'_> {
     }
 
     /// The definitions of the file, by the grammar.
-    pub fn defs(&self) -> Result<List<DefOf<Plain>>, SyntaxFault>
+    pub(crate) fn defs(&self) -> Result<List<DefOf<Plain>>, SyntaxFault>
         ensures file { IfOk result (λ defs. IsFile defs self.now.tokens.now) }
         ensures fault { IfSyntax result (λ line. StopsAt self.now.tokens.now line) }
         ensures only { (defs : List (DefOf Plain)) → IsFile defs self.now.tokens.now → IsAnswer (λ found. found) result defs }
+        ensures stops { (line : Line) → StopsAt self.now.tokens.now line → IsSyntaxAt result line }
     {
         self.file()
     }

@@ -1,22 +1,14 @@
 //! Equations, and the blocks that hold some.
 
-ghost use Rattle.std.specs.Prelude.{◌≡◌, ◌+◌, ◌≤◌, ◌<◌, length, OnOk};
-ghost use Rattle.ls_parser.specs.declared.level.Level.TheVariants.{Expr as Whole};
-ghost use Rattle.ls_parser.specs.Reading.{rest, seen, Gives};
+ghost use Rattle.std.specs.Prelude.{◌≡◌, OnOk};
+ghost use Rattle.ls_parser.specs.Reading.{rest, Reads, Takes};
 ghost use Rattle.ls_parser.specs.Equations as spec;
-ghost use Rattle.ls_parser.specs.Expressions.{expression};
 ghost use Rattle.ls_parser.specs.Making.{with_strong, with_weak};
-ghost use Rattle.ls_parser.specs.Patterns.{pattern};
 
 use crate::{Level, Parser, Read, Stop, taller};
 use ls_ast::{Arm, Equation, Expr, Guard, Handler, Pat, Plain, State, Test};
 use ls_base::{List, Name, NoMemory};
 use ls_lexer::{Fixed, Token};
-
-/// Names that stand first in each file's names.
-const FALSE: Name = Name(0);
-
-const TRUE: Name = Name(1);
 
 fn opens(word: Fixed) -> bool
     ensures { result ≡ spec.opens word }
@@ -40,8 +32,8 @@ fn case_of(token: Token) -> Option<Name>
 {
     match token {
         Token::Cons(name) => Some(name),
-        Token::Fixed(Fixed::KwTrue) => Some(TRUE),
-        Token::Fixed(Fixed::KwFalse) => Some(FALSE),
+        Token::Fixed(Fixed::KwTrue) => Some(Name::TRUE),
+        Token::Fixed(Fixed::KwFalse) => Some(Name::FALSE),
         _ => None,
     }
 }
@@ -66,7 +58,7 @@ fn put(
 impl Parser<'_> {
     /// The place behind a word, if it stands at a place.
     #[tactic(auto, unfolding(crate::specs::Equations::skip))]
-    pub fn skip(&self, at: usize, word: Fixed) -> usize
+    pub(crate) fn skip(&self, at: usize, word: Fixed) -> usize
         ensures { rest self.now.tokens.now result ≡ spec.skip word (rest self.now.tokens.now at) }
     {
         match self.next(at) {
@@ -78,7 +70,7 @@ impl Parser<'_> {
     // The name of an arm's case.
     #[tactic(auto, unfolding(crate::specs::Equations::case_name))]
     fn case_name(&self, at: usize) -> Result<(Name, usize), Stop>
-        ensures { Gives (λ p. (p.0, rest self.now.tokens.now p.1)) result (spec.case_name (rest self.now.tokens.now at)) }
+        ensures { Takes self.now.tokens.now at result spec.case_name }
     {
         let Some((token, at)) = self.next(at) else {
             return Err(Stop::Fault);
@@ -123,7 +115,7 @@ impl Parser<'_> {
     // A word, a name, `=` and an expression.
     #[tactic(auto, unfolding(crate::specs::Equations::bound))]
     fn bound(&self, word: Fixed, at: usize, parts: u32) -> Read<(Name, Expr<Plain>)>
-        ensures { Gives (λ x. seen self.now.tokens.now x) result (spec.bound (length self.now.tokens.now) (expression (length self.now.tokens.now) parts Whole) (pattern (length self.now.tokens.now) parts) (spec.equation_at (length self.now.tokens.now) parts) (spec.doing_at (length self.now.tokens.now) parts) word (rest self.now.tokens.now at)) }
+        ensures { Reads self.now.tokens.now at result (λ n. spec.of_parts parts spec.bound n word) }
     {
         let at = self.word(at, word)?;
         let (name, at) = self.name(at)?;
@@ -136,7 +128,7 @@ impl Parser<'_> {
     // `p = e`
     #[tactic(auto, unfolding(crate::specs::Equations::plain_equation))]
     fn plain_equation(&self, at: usize, parts: u32) -> Read<Equation<Plain>>
-        ensures { Gives (λ x. seen self.now.tokens.now x) result (spec.plain_equation (length self.now.tokens.now) (expression (length self.now.tokens.now) parts Whole) (pattern (length self.now.tokens.now) parts) (spec.equation_at (length self.now.tokens.now) parts) (spec.doing_at (length self.now.tokens.now) parts) (rest self.now.tokens.now at)) }
+        ensures { Reads self.now.tokens.now at result (spec.of_parts parts spec.plain_equation) }
     {
         let (pattern, first, at) = self.pattern(at, parts)?;
         let at = self.word(at, Fixed::Equal)?;
@@ -148,7 +140,7 @@ impl Parser<'_> {
     // The pattern of a test, in parentheses, if there is one.
     #[tactic(auto, unfolding(crate::specs::Equations::tested))]
     fn tested(&self, at: usize, parts: u32) -> Read<Option<Pat>>
-        ensures { Gives (λ x. seen self.now.tokens.now x) result (spec.tested (length self.now.tokens.now) (expression (length self.now.tokens.now) parts Whole) (pattern (length self.now.tokens.now) parts) (spec.equation_at (length self.now.tokens.now) parts) (spec.doing_at (length self.now.tokens.now) parts) (rest self.now.tokens.now at)) }
+        ensures { Reads self.now.tokens.now at result (spec.of_parts parts spec.tested) }
     {
         if self.is(at, Fixed::ParenLeft) {
             let at = self.word(at, Fixed::ParenLeft)?;
@@ -163,7 +155,7 @@ impl Parser<'_> {
     // A guard of a state: whether it is strong, and itself.
     #[tactic(auto, unfolding(crate::specs::Equations::transition))]
     fn transition(&self, at: usize, parts: u32) -> Read<(bool, Guard<Plain>)>
-        ensures { Gives (λ x. seen self.now.tokens.now x) result (spec.transition (length self.now.tokens.now) (expression (length self.now.tokens.now) parts Whole) (pattern (length self.now.tokens.now) parts) (spec.equation_at (length self.now.tokens.now) parts) (spec.doing_at (length self.now.tokens.now) parts) (rest self.now.tokens.now at)) }
+        ensures { Reads self.now.tokens.now at result (spec.of_parts parts spec.transition) }
     {
         let (strong, at) = self.either(at, Fixed::KwUnless, Fixed::KwUntil)?;
         let (cond, height, at) = self.phrase(Level::Expr, at, parts)?;
@@ -189,7 +181,7 @@ impl Parser<'_> {
     // Which of two words stands at a place, and the place behind it.
     #[tactic(auto, unfolding(crate::specs::Equations::either))]
     fn either(&self, at: usize, first: Fixed, second: Fixed) -> Result<(bool, usize), Stop>
-        ensures { Gives (λ p. (p.0, rest self.now.tokens.now p.1)) result (spec.either first second (rest self.now.tokens.now at)) }
+        ensures { Takes self.now.tokens.now at result (spec.either first second) }
     {
         if self.is(at, first) {
             Ok((true, self.word(at, first)?))
@@ -201,7 +193,7 @@ impl Parser<'_> {
     // The guards of a state, strong ones and weak ones.
     #[tactic(auto, unfolding(crate::specs::Equations::guards))]
     fn guards(&self, at: usize, parts: u32) -> Read<(List<Guard<Plain>>, List<Guard<Plain>>)>
-        ensures { Gives (λ x. seen self.now.tokens.now x) result (spec.guards (length self.now.tokens.now) (expression (length self.now.tokens.now) parts Whole) (pattern (length self.now.tokens.now) parts) (spec.equation_at (length self.now.tokens.now) parts) (spec.doing_at (length self.now.tokens.now) parts) (rest self.now.tokens.now at)) }
+        ensures { Reads self.now.tokens.now at result (spec.of_parts parts spec.guards) }
     {
         let ((first_strong, first), height, behind) = self.transition(at, parts)?;
         let mut strong = List::new(self.alloc);
@@ -224,7 +216,7 @@ impl Parser<'_> {
     // What stands behind the equations of a state.
     #[tactic(auto, unfolding(crate::specs::Equations::exits))]
     fn exits(&self, at: usize, parts: u32) -> Read<(List<Guard<Plain>>, List<Guard<Plain>>)>
-        ensures { Gives (λ x. seen self.now.tokens.now x) result (spec.exits (length self.now.tokens.now) (expression (length self.now.tokens.now) parts Whole) (pattern (length self.now.tokens.now) parts) (spec.equation_at (length self.now.tokens.now) parts) (spec.doing_at (length self.now.tokens.now) parts) (rest self.now.tokens.now at)) }
+        ensures { Reads self.now.tokens.now at result (spec.of_parts parts spec.exits) }
     {
         if self.is(at, Fixed::KwDone) {
             let at = self.word(at, Fixed::KwDone)?;
@@ -240,8 +232,8 @@ impl Parser<'_> {
     /// An equation, in a `do` or elsewhere, of which the parts nest up to a depth.
     #[cycle(eqs)]
     #[tactic(auto, unfolding(crate::specs::Equations::equation_at))]
-    pub fn equation(&self, in_do: bool, at: usize, depth: u32) -> Read<Equation<Plain>>
-        ensures { Gives (λ x. seen self.now.tokens.now x) result (spec.equation_at (length self.now.tokens.now) depth in_do (rest self.now.tokens.now at)) }
+    pub(crate) fn equation(&self, in_do: bool, at: usize, depth: u32) -> Read<Equation<Plain>>
+        ensures { Reads self.now.tokens.now at result (λ n. spec.equation_at n depth in_do) }
     {
         if depth == 0 {
             return Err(Stop::Fault);
@@ -253,7 +245,7 @@ impl Parser<'_> {
     #[cycle(eqs)]
     #[tactic(auto, unfolding(crate::specs::Equations::equation))]
     fn equation_of(&self, in_do: bool, at: usize, parts: u32) -> Read<Equation<Plain>>
-        ensures { Gives (λ x. seen self.now.tokens.now x) result (spec.equation (length self.now.tokens.now) (expression (length self.now.tokens.now) parts Whole) (pattern (length self.now.tokens.now) parts) (spec.equation_at (length self.now.tokens.now) parts) (spec.doing_at (length self.now.tokens.now) parts) in_do (rest self.now.tokens.now at)) }
+        ensures { Reads self.now.tokens.now at result (λ n. spec.of_parts parts spec.equation n in_do) }
     {
         if !in_do && self.is(at, Fixed::KwClock) {
             let ((name, value), height, at) = self.bound(Fixed::KwClock, at, parts)?;
@@ -280,8 +272,13 @@ impl Parser<'_> {
     /// Equations between which `and` stands.
     #[cycle(eqs)]
     #[tactic(auto, unfolding(crate::specs::Equations::equations))]
-    pub fn equations(&self, in_do: bool, at: usize, parts: u32) -> Read<List<Equation<Plain>>>
-        ensures { Gives (λ x. seen self.now.tokens.now x) result (spec.equations (length self.now.tokens.now) (expression (length self.now.tokens.now) parts Whole) (pattern (length self.now.tokens.now) parts) (spec.equation_at (length self.now.tokens.now) parts) (spec.doing_at (length self.now.tokens.now) parts) in_do (rest self.now.tokens.now at)) }
+    pub(crate) fn equations(
+        &self,
+        in_do: bool,
+        at: usize,
+        parts: u32,
+    ) -> Read<List<Equation<Plain>>>
+        ensures { Reads self.now.tokens.now at result (λ n. spec.of_parts parts spec.equations n in_do) }
     {
         let (first, height, next) = self.equation(in_do, at, parts)?;
         let mut items = List::new(self.alloc);
@@ -305,7 +302,7 @@ impl Parser<'_> {
     #[cycle(eqs)]
     #[tactic(auto, unfolding(crate::specs::Equations::reset))]
     fn reset(&self, in_do: bool, at: usize, parts: u32) -> Read<Equation<Plain>>
-        ensures { Gives (λ x. seen self.now.tokens.now x) result (spec.reset (length self.now.tokens.now) (expression (length self.now.tokens.now) parts Whole) (pattern (length self.now.tokens.now) parts) (spec.equation_at (length self.now.tokens.now) parts) (spec.doing_at (length self.now.tokens.now) parts) in_do (rest self.now.tokens.now at)) }
+        ensures { Reads self.now.tokens.now at result (λ n. spec.of_parts parts spec.reset n in_do) }
     {
         let at = self.word(at, Fixed::KwReset)?;
         let (inner, first, at) = self.equations(in_do, at, parts)?;
@@ -319,7 +316,7 @@ impl Parser<'_> {
     #[cycle(eqs)]
     #[tactic(auto, unfolding(crate::specs::Equations::handler))]
     fn handler(&self, at: usize, parts: u32) -> Read<Handler<Plain>>
-        ensures { Gives (λ x. seen self.now.tokens.now x) result (spec.handler (length self.now.tokens.now) (expression (length self.now.tokens.now) parts Whole) (pattern (length self.now.tokens.now) parts) (spec.equation_at (length self.now.tokens.now) parts) (spec.doing_at (length self.now.tokens.now) parts) (rest self.now.tokens.now at)) }
+        ensures { Reads self.now.tokens.now at result (spec.of_parts parts spec.handler) }
     {
         let (handler, height, at) = self.doing(at, parts)?;
         Ok((handler, height, self.word(at, Fixed::KwDone)?))
@@ -329,7 +326,7 @@ impl Parser<'_> {
     #[cycle(eqs)]
     #[tactic(auto, unfolding(crate::specs::Equations::arm))]
     fn arm(&self, at: usize, parts: u32) -> Read<Arm<Plain>>
-        ensures { Gives (λ x. seen self.now.tokens.now x) result (spec.arm (length self.now.tokens.now) (expression (length self.now.tokens.now) parts Whole) (pattern (length self.now.tokens.now) parts) (spec.equation_at (length self.now.tokens.now) parts) (spec.doing_at (length self.now.tokens.now) parts) (rest self.now.tokens.now at)) }
+        ensures { Reads self.now.tokens.now at result (spec.of_parts parts spec.arm) }
     {
         let (name, at) = self.case_name(at)?;
         let at = self.word(at, Fixed::Arrow)?;
@@ -348,7 +345,7 @@ impl Parser<'_> {
     #[cycle(eqs)]
     #[tactic(auto, unfolding(crate::specs::Equations::arms))]
     fn arms(&self, at: usize, parts: u32) -> Read<List<Arm<Plain>>>
-        ensures { Gives (λ x. seen self.now.tokens.now x) result (spec.arms (length self.now.tokens.now) (expression (length self.now.tokens.now) parts Whole) (pattern (length self.now.tokens.now) parts) (spec.equation_at (length self.now.tokens.now) parts) (spec.doing_at (length self.now.tokens.now) parts) (rest self.now.tokens.now at)) }
+        ensures { Reads self.now.tokens.now at result (spec.of_parts parts spec.arms) }
     {
         let (first, height, next) = self.arm(at, parts)?;
         let mut items = List::new(self.alloc);
@@ -378,7 +375,7 @@ impl Parser<'_> {
         at: usize,
         parts: u32,
     ) -> Read<List<Arm<Plain>>>
-        ensures { Gives (λ x. seen self.now.tokens.now x) result (spec.other_arm (length self.now.tokens.now) (expression (length self.now.tokens.now) parts Whole) (pattern (length self.now.tokens.now) parts) (spec.equation_at (length self.now.tokens.now) parts) (spec.doing_at (length self.now.tokens.now) parts) arms height (rest self.now.tokens.now at)) }
+        ensures { Reads self.now.tokens.now at result (λ n. spec.of_parts parts spec.other_arm n arms height) }
     {
         if !self.is(at, Fixed::Bar) {
             return Ok((arms, height, at));
@@ -399,7 +396,7 @@ impl Parser<'_> {
     #[cycle(eqs)]
     #[tactic(auto, unfolding(crate::specs::Equations::matching))]
     fn matching(&self, at: usize, parts: u32) -> Read<Equation<Plain>>
-        ensures { Gives (λ x. seen self.now.tokens.now x) result (spec.matching (length self.now.tokens.now) (expression (length self.now.tokens.now) parts Whole) (pattern (length self.now.tokens.now) parts) (spec.equation_at (length self.now.tokens.now) parts) (spec.doing_at (length self.now.tokens.now) parts) (rest self.now.tokens.now at)) }
+        ensures { Reads self.now.tokens.now at result (spec.of_parts parts spec.matching) }
     {
         let at = self.word(at, Fixed::KwMatch)?;
         let (value, first, at) = self.phrase(Level::Expr, at, parts)?;
@@ -416,7 +413,7 @@ impl Parser<'_> {
     #[cycle(eqs)]
     #[tactic(auto, unfolding(crate::specs::Equations::test))]
     fn test(&self, at: usize, parts: u32) -> Read<Test<Plain>>
-        ensures { Gives (λ x. seen self.now.tokens.now x) result (spec.test (length self.now.tokens.now) (expression (length self.now.tokens.now) parts Whole) (pattern (length self.now.tokens.now) parts) (spec.equation_at (length self.now.tokens.now) parts) (spec.doing_at (length self.now.tokens.now) parts) (rest self.now.tokens.now at)) }
+        ensures { Reads self.now.tokens.now at result (spec.of_parts parts spec.test) }
     {
         let (signal, at) = self.name(at)?;
         let (pat, first, at) = self.tested(at, parts)?;
@@ -438,7 +435,7 @@ impl Parser<'_> {
     #[cycle(eqs)]
     #[tactic(auto, unfolding(crate::specs::Equations::tests))]
     fn tests(&self, at: usize, parts: u32) -> Read<List<Test<Plain>>>
-        ensures { Gives (λ x. seen self.now.tokens.now x) result (spec.tests (length self.now.tokens.now) (expression (length self.now.tokens.now) parts Whole) (pattern (length self.now.tokens.now) parts) (spec.equation_at (length self.now.tokens.now) parts) (spec.doing_at (length self.now.tokens.now) parts) (rest self.now.tokens.now at)) }
+        ensures { Reads self.now.tokens.now at result (spec.of_parts parts spec.tests) }
     {
         let (first, height, next) = self.test(at, parts)?;
         let mut items = List::new(self.alloc);
@@ -462,7 +459,7 @@ impl Parser<'_> {
     #[cycle(eqs)]
     #[tactic(auto, unfolding(crate::specs::Equations::otherwise))]
     fn otherwise(&self, at: usize, parts: u32) -> Read<Option<Handler<Plain>>>
-        ensures { Gives (λ x. seen self.now.tokens.now x) result (spec.otherwise (length self.now.tokens.now) (expression (length self.now.tokens.now) parts Whole) (pattern (length self.now.tokens.now) parts) (spec.equation_at (length self.now.tokens.now) parts) (spec.doing_at (length self.now.tokens.now) parts) (rest self.now.tokens.now at)) }
+        ensures { Reads self.now.tokens.now at result (spec.of_parts parts spec.otherwise) }
     {
         if self.is(at, Fixed::KwElse) {
             let at = self.word(at, Fixed::KwElse)?;
@@ -477,7 +474,7 @@ impl Parser<'_> {
     #[cycle(eqs)]
     #[tactic(auto, unfolding(crate::specs::Equations::presence))]
     fn presence(&self, at: usize, parts: u32) -> Read<Equation<Plain>>
-        ensures { Gives (λ x. seen self.now.tokens.now x) result (spec.presence (length self.now.tokens.now) (expression (length self.now.tokens.now) parts Whole) (pattern (length self.now.tokens.now) parts) (spec.equation_at (length self.now.tokens.now) parts) (spec.doing_at (length self.now.tokens.now) parts) (rest self.now.tokens.now at)) }
+        ensures { Reads self.now.tokens.now at result (spec.of_parts parts spec.presence) }
     {
         let at = self.word(at, Fixed::KwPresent)?;
         let at = self.skip(at, Fixed::Bar);
@@ -492,7 +489,7 @@ impl Parser<'_> {
     #[cycle(eqs)]
     #[tactic(auto, unfolding(crate::specs::Equations::state))]
     fn state(&self, at: usize, parts: u32) -> Read<State<Plain>>
-        ensures { Gives (λ x. seen self.now.tokens.now x) result (spec.state (length self.now.tokens.now) (expression (length self.now.tokens.now) parts Whole) (pattern (length self.now.tokens.now) parts) (spec.equation_at (length self.now.tokens.now) parts) (spec.doing_at (length self.now.tokens.now) parts) (rest self.now.tokens.now at)) }
+        ensures { Reads self.now.tokens.now at result (spec.of_parts parts spec.state) }
     {
         let (name, at) = self.constructor(at)?;
         let at = self.word(at, Fixed::Arrow)?;
@@ -515,7 +512,7 @@ impl Parser<'_> {
     #[cycle(eqs)]
     #[tactic(auto, unfolding(crate::specs::Equations::states))]
     fn states(&self, at: usize, parts: u32) -> Read<List<State<Plain>>>
-        ensures { Gives (λ x. seen self.now.tokens.now x) result (spec.states (length self.now.tokens.now) (expression (length self.now.tokens.now) parts Whole) (pattern (length self.now.tokens.now) parts) (spec.equation_at (length self.now.tokens.now) parts) (spec.doing_at (length self.now.tokens.now) parts) (rest self.now.tokens.now at)) }
+        ensures { Reads self.now.tokens.now at result (spec.of_parts parts spec.states) }
     {
         let (first, height, next) = self.state(at, parts)?;
         let mut items = List::new(self.alloc);
@@ -539,7 +536,7 @@ impl Parser<'_> {
     #[cycle(eqs)]
     #[tactic(auto, unfolding(crate::specs::Equations::automaton))]
     fn automaton(&self, at: usize, parts: u32) -> Read<Equation<Plain>>
-        ensures { Gives (λ x. seen self.now.tokens.now x) result (spec.automaton (length self.now.tokens.now) (expression (length self.now.tokens.now) parts Whole) (pattern (length self.now.tokens.now) parts) (spec.equation_at (length self.now.tokens.now) parts) (spec.doing_at (length self.now.tokens.now) parts) (rest self.now.tokens.now at)) }
+        ensures { Reads self.now.tokens.now at result (spec.of_parts parts spec.automaton) }
     {
         let at = self.word(at, Fixed::KwAutomaton)?;
         let at = self.skip(at, Fixed::Bar);
@@ -553,7 +550,7 @@ impl Parser<'_> {
     #[cycle(eqs)]
     #[tactic(auto, unfolding(crate::specs::Equations::locals))]
     fn locals(&self, at: usize, parts: u32) -> Read<List<Equation<Plain>>>
-        ensures { Gives (λ x. seen self.now.tokens.now x) result (spec.locals (length self.now.tokens.now) (expression (length self.now.tokens.now) parts Whole) (pattern (length self.now.tokens.now) parts) (spec.equation_at (length self.now.tokens.now) parts) (spec.doing_at (length self.now.tokens.now) parts) (rest self.now.tokens.now at)) }
+        ensures { Reads self.now.tokens.now at result (spec.of_parts parts spec.locals) }
     {
         if self.is(at, Fixed::KwLet) {
             let at = self.word(at, Fixed::KwLet)?;
@@ -570,7 +567,7 @@ impl Parser<'_> {
     #[cycle(eqs)]
     #[tactic(auto, unfolding(crate::specs::Equations::within))]
     fn within(&self, at: usize, parts: u32) -> Read<List<Equation<Plain>>>
-        ensures { Gives (λ x. seen self.now.tokens.now x) result (spec.within (length self.now.tokens.now) (expression (length self.now.tokens.now) parts Whole) (pattern (length self.now.tokens.now) parts) (spec.equation_at (length self.now.tokens.now) parts) (spec.doing_at (length self.now.tokens.now) parts) (rest self.now.tokens.now at)) }
+        ensures { Reads self.now.tokens.now at result (spec.of_parts parts spec.within) }
     {
         if self.begins_equation(at) {
             self.equations(true, at, parts)
@@ -583,7 +580,7 @@ impl Parser<'_> {
     #[cycle(eqs)]
     #[tactic(auto, unfolding(crate::specs::Equations::doing))]
     fn doing_of(&self, at: usize, parts: u32) -> Read<Handler<Plain>>
-        ensures { Gives (λ x. seen self.now.tokens.now x) result (spec.doing (length self.now.tokens.now) (expression (length self.now.tokens.now) parts Whole) (pattern (length self.now.tokens.now) parts) (spec.equation_at (length self.now.tokens.now) parts) (spec.doing_at (length self.now.tokens.now) parts) (rest self.now.tokens.now at)) }
+        ensures { Reads self.now.tokens.now at result (spec.of_parts parts spec.doing) }
     {
         let (locals, first, at) = self.locals(at, parts)?;
         let at = self.word(at, Fixed::KwDo)?;
@@ -596,7 +593,7 @@ impl Parser<'_> {
     #[cycle(eqs)]
     #[tactic(auto, unfolding(crate::specs::Equations::doing_at))]
     fn doing(&self, at: usize, depth: u32) -> Read<Handler<Plain>>
-        ensures { Gives (λ x. seen self.now.tokens.now x) result (spec.doing_at (length self.now.tokens.now) depth (rest self.now.tokens.now at)) }
+        ensures { Reads self.now.tokens.now at result (λ n. spec.doing_at n depth) }
     {
         if depth == 0 {
             return Err(Stop::Fault);

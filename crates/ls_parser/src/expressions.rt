@@ -1,8 +1,8 @@
 //! Expressions.
 
-ghost use Rattle.std.specs.Prelude.{◌≡◌, ◌+◌, ◌≤◌, ◌<◌, length, Some};
+ghost use Rattle.std.specs.Prelude.{◌≡◌, Some};
 ghost use Rattle.std.specs.Option.{option_map};
-ghost use Rattle.ls_parser.specs.Reading.{rest, seen, Gives};
+ghost use Rattle.ls_parser.specs.Reading.{rest, Gives, Reads, Takes};
 ghost use Rattle.ls_parser.specs.Expressions as spec;
 ghost use Rattle.ls_parser.specs.Making as make;
 
@@ -82,7 +82,7 @@ impl Parser<'_> {
 
     /// Whether an atom begins at a place.
     #[tactic(auto, unfolding(crate::specs::Expressions::begins_atom))]
-    pub fn begins_atom(&self, at: usize) -> bool
+    pub(crate) fn begins_atom(&self, at: usize) -> bool
         ensures { result ≡ spec.begins_atom (rest self.now.tokens.now at) }
     {
         match self.next(at) {
@@ -141,7 +141,7 @@ impl Parser<'_> {
     // A condition of `when`.
     #[tactic(auto, unfolding(crate::specs::Expressions::condition))]
     fn condition(&self, at: usize) -> Result<((Name, Case), usize), Stop>
-        ensures { Gives (λ p. (p.0, rest self.now.tokens.now p.1)) result (spec.condition (rest self.now.tokens.now at)) }
+        ensures { Takes self.now.tokens.now at result spec.condition }
     {
         match self.next(at) {
             Some((Token::Id(name), at)) => Ok(((name, Case::True), at)),
@@ -221,7 +221,7 @@ impl Parser<'_> {
     // A literal, a constructor or a name at a place.
     #[tactic(auto, unfolding(crate::specs::Expressions::single))]
     fn single(&self, at: usize) -> Read<Expr<Plain>>
-        ensures { Gives (λ x. seen self.now.tokens.now x) result (spec.single (rest self.now.tokens.now at)) }
+        ensures { Reads self.now.tokens.now at result (λ _. spec.single) }
     {
         let Some((token, at)) = self.next(at) else {
             return Err(Stop::Fault);
@@ -235,8 +235,8 @@ impl Parser<'_> {
     // An expression of a level, of which the parts nest up to a depth.
     #[cycle(expr)]
     #[tactic(auto, unfolding(crate::specs::Expressions::expression))]
-    pub fn phrase(&self, level: Level, at: usize, depth: u32) -> Read<Expr<Plain>>
-        ensures { Gives (λ x. seen self.now.tokens.now x) result (spec.expression (length self.now.tokens.now) depth level (rest self.now.tokens.now at)) }
+    pub(crate) fn phrase(&self, level: Level, at: usize, depth: u32) -> Read<Expr<Plain>>
+        ensures { Reads self.now.tokens.now at result (λ n. spec.expression n depth level) }
     {
         if depth == 0 {
             return Err(Stop::Fault);
@@ -248,7 +248,7 @@ impl Parser<'_> {
     #[cycle(expr)]
     #[tactic(auto, unfolding(crate::specs::Expressions::phrase))]
     fn level(&self, level: Level, at: usize, parts: u32) -> Read<Expr<Plain>>
-        ensures { Gives (λ x. seen self.now.tokens.now x) result (spec.phrase (length self.now.tokens.now) (spec.expression (length self.now.tokens.now) parts) level (rest self.now.tokens.now at)) }
+        ensures { Reads self.now.tokens.now at result (λ n. spec.phrase n (spec.expression n parts) level) }
     {
         match level {
             Level::Atom => self.atom(at, parts),
@@ -265,7 +265,7 @@ impl Parser<'_> {
     #[cycle(expr)]
     #[tactic(auto, unfolding(crate::specs::Expressions::conditional))]
     fn conditional(&self, at: usize, parts: u32) -> Read<Expr<Plain>>
-        ensures { Gives (λ x. seen self.now.tokens.now x) result (spec.conditional (length self.now.tokens.now) (spec.expression (length self.now.tokens.now) parts) (rest self.now.tokens.now at)) }
+        ensures { Reads self.now.tokens.now at result (λ n. spec.conditional n (spec.expression n parts)) }
     {
         let at = self.word(at, Fixed::KwIf)?;
         let (condition, first, at) = self.phrase(Level::Expr, at, parts)?;
@@ -282,7 +282,7 @@ impl Parser<'_> {
     #[cycle(expr)]
     #[tactic(auto, unfolding(crate::specs::Expressions::operand))]
     fn operand(&self, at: usize, parts: u32) -> Read<Expr<Plain>>
-        ensures { Gives (λ x. seen self.now.tokens.now x) result (spec.operand (length self.now.tokens.now) (spec.expression (length self.now.tokens.now) parts) (rest self.now.tokens.now at)) }
+        ensures { Reads self.now.tokens.now at result (λ n. spec.operand n (spec.expression n parts)) }
     {
         if self.is(at, Fixed::Minus) {
             let at = self.word(at, Fixed::Minus)?;
@@ -308,7 +308,7 @@ impl Parser<'_> {
     #[cycle(expr)]
     #[tactic(auto, unfolding(crate::specs::Expressions::application))]
     fn application(&self, at: usize, parts: u32) -> Read<Expr<Plain>>
-        ensures { Gives (λ x. seen self.now.tokens.now x) result (spec.application (length self.now.tokens.now) (spec.expression (length self.now.tokens.now) parts) (rest self.now.tokens.now at)) }
+        ensures { Reads self.now.tokens.now at result (λ n. spec.application n (spec.expression n parts)) }
     {
         match self.next(at) {
             Some((Token::Prefix(op), at)) => self.prefixed(op, at, parts),
@@ -332,7 +332,7 @@ impl Parser<'_> {
     #[cycle(expr)]
     #[tactic(auto, unfolding(crate::specs::Expressions::prefixed))]
     fn prefixed(&self, op: Op, at: usize, parts: u32) -> Read<Expr<Plain>>
-        ensures { Gives (λ x. seen self.now.tokens.now x) result (spec.prefixed (length self.now.tokens.now) (spec.expression (length self.now.tokens.now) parts) op (rest self.now.tokens.now at)) }
+        ensures { Reads self.now.tokens.now at result (λ n. spec.prefixed n (spec.expression n parts) op) }
     {
         let count = operands(op);
         let (args, height, at) = self.arguments(count, at, parts)?;
@@ -348,7 +348,7 @@ impl Parser<'_> {
     #[cycle(expr)]
     #[tactic(auto, unfolding(crate::specs::Expressions::named))]
     fn named(&self, at: usize, parts: u32) -> Read<Expr<Plain>>
-        ensures { Gives (λ x. seen self.now.tokens.now x) result (spec.named (length self.now.tokens.now) (spec.expression (length self.now.tokens.now) parts) (rest self.now.tokens.now at)) }
+        ensures { Reads self.now.tokens.now at result (λ n. spec.named n (spec.expression n parts)) }
     {
         let ((run, (name, args)), height, at) = self.call(at, parts)?;
         let made = self.applied(run, name, args)?;
@@ -360,7 +360,7 @@ impl Parser<'_> {
     #[cycle(expr)]
     #[tactic(auto, unfolding(crate::specs::Expressions::call))]
     fn call(&self, at: usize, parts: u32) -> Read<(bool, (Name, List<Expr<Plain>>))>
-        ensures { Gives (λ x. seen self.now.tokens.now x) result (spec.call (length self.now.tokens.now) (spec.expression (length self.now.tokens.now) parts) (rest self.now.tokens.now at)) }
+        ensures { Reads self.now.tokens.now at result (λ n. spec.call n (spec.expression n parts)) }
     {
         if self.is(at, Fixed::KwRun) {
             let at = self.word(at, Fixed::KwRun)?;
@@ -378,7 +378,7 @@ impl Parser<'_> {
     #[cycle(expr)]
     #[tactic(auto, unfolding(crate::specs::Expressions::arguments))]
     fn arguments(&self, limit: usize, at: usize, parts: u32) -> Read<List<Expr<Plain>>>
-        ensures { Gives (λ x. seen self.now.tokens.now x) result (spec.arguments (length self.now.tokens.now) (spec.expression (length self.now.tokens.now) parts) limit (rest self.now.tokens.now at)) }
+        ensures { Reads self.now.tokens.now at result (λ n. spec.arguments n (spec.expression n parts) limit) }
     {
         let mut args = List::new(self.alloc);
         let mut highest = 0;
@@ -399,7 +399,7 @@ impl Parser<'_> {
     #[cycle(expr)]
     #[tactic(auto, unfolding(crate::specs::Expressions::merge))]
     fn merge(&self, name: Name, at: usize, parts: u32) -> Read<Expr<Plain>>
-        ensures { Gives (λ x. seen self.now.tokens.now x) result (spec.merge (length self.now.tokens.now) (spec.expression (length self.now.tokens.now) parts) name (rest self.now.tokens.now at)) }
+        ensures { Reads self.now.tokens.now at result (λ n. spec.merge n (spec.expression n parts) name) }
     {
         if self.begins_branch(at) {
             let (branches, height, at) = self.branches(at, parts)?;
@@ -419,7 +419,7 @@ impl Parser<'_> {
     #[cycle(expr)]
     #[tactic(auto, unfolding(crate::specs::Expressions::branches))]
     fn branches(&self, at: usize, parts: u32) -> Read<List<(Case, Expr<Plain>)>>
-        ensures { Gives (λ x. seen self.now.tokens.now x) result (spec.branches (length self.now.tokens.now) (spec.expression (length self.now.tokens.now) parts) (rest self.now.tokens.now at)) }
+        ensures { Reads self.now.tokens.now at result (λ n. spec.branches n (spec.expression n parts)) }
     {
         let (first, height, next) = self.branch(at, parts)?;
         let mut items = List::new(self.alloc);
@@ -442,7 +442,7 @@ impl Parser<'_> {
     #[cycle(expr)]
     #[tactic(auto, unfolding(crate::specs::Expressions::branch))]
     fn branch(&self, at: usize, parts: u32) -> Read<(Case, Expr<Plain>)>
-        ensures { Gives (λ x. seen self.now.tokens.now x) result (spec.branch (length self.now.tokens.now) (spec.expression (length self.now.tokens.now) parts) (rest self.now.tokens.now at)) }
+        ensures { Reads self.now.tokens.now at result (λ n. spec.branch n (spec.expression n parts)) }
     {
         let at = self.word(at, Fixed::ParenLeft)?;
         let (case, at) = self.constructor(at)?;
@@ -456,7 +456,7 @@ impl Parser<'_> {
     #[cycle(expr)]
     #[tactic(auto, unfolding(crate::specs::Expressions::atom))]
     fn atom(&self, at: usize, parts: u32) -> Read<Expr<Plain>>
-        ensures { Gives (λ x. seen self.now.tokens.now x) result (spec.atom (length self.now.tokens.now) (spec.expression (length self.now.tokens.now) parts) (rest self.now.tokens.now at)) }
+        ensures { Reads self.now.tokens.now at result (λ n. spec.atom n (spec.expression n parts)) }
     {
         if self.is(at, Fixed::ParenLeft) {
             let at = self.word(at, Fixed::ParenLeft)?;
@@ -478,7 +478,7 @@ impl Parser<'_> {
     #[cycle(expr)]
     #[tactic(auto, unfolding(crate::specs::Expressions::group))]
     fn group(&self, at: usize, parts: u32) -> Read<Expr<Plain>>
-        ensures { Gives (λ x. seen self.now.tokens.now x) result (spec.group (length self.now.tokens.now) (spec.expression (length self.now.tokens.now) parts) (rest self.now.tokens.now at)) }
+        ensures { Reads self.now.tokens.now at result (λ n. spec.group n (spec.expression n parts)) }
     {
         if self.is(at, Fixed::ParenRight) {
             let at = self.word(at, Fixed::ParenRight)?;
@@ -515,7 +515,7 @@ impl Parser<'_> {
         at: usize,
         parts: u32,
     ) -> Read<Expr<Plain>>
-        ensures { Gives (λ x. seen self.now.tokens.now x) result (spec.group_from (length self.now.tokens.now) (spec.expression (length self.now.tokens.now) parts) first height (rest self.now.tokens.now at)) }
+        ensures { Reads self.now.tokens.now at result (λ n. spec.group_from n (spec.expression n parts) first height) }
     {
         if self.is(at, Fixed::Comma) {
             return self.tuple(first, height, at, parts);
@@ -529,7 +529,7 @@ impl Parser<'_> {
     #[cycle(expr)]
     #[tactic(auto, unfolding(crate::specs::Expressions::tuple))]
     fn tuple(&self, first: Expr<Plain>, height: u32, at: usize, parts: u32) -> Read<Expr<Plain>>
-        ensures { Gives (λ x. seen self.now.tokens.now x) result (spec.tuple (length self.now.tokens.now) (spec.expression (length self.now.tokens.now) parts) first height (rest self.now.tokens.now at)) }
+        ensures { Reads self.now.tokens.now at result (λ n. spec.tuple n (spec.expression n parts) first height) }
     {
         let mut inner = List::new(self.alloc);
         inner.push(first)?;
@@ -562,7 +562,7 @@ impl Parser<'_> {
         at: usize,
         parts: u32,
     ) -> Read<Expr<Plain>>
-        ensures { Gives (λ x. seen self.now.tokens.now x) result (spec.every (length self.now.tokens.now) (spec.expression (length self.now.tokens.now) parts) run head args height (rest self.now.tokens.now at)) }
+        ensures { Reads self.now.tokens.now at result (λ n. spec.every n (spec.expression n parts) run head args height) }
     {
         if args.len() == 0 {
             return Err(Stop::Fault);
@@ -596,7 +596,7 @@ impl Parser<'_> {
         at: usize,
         parts: u32,
     ) -> Read<Expr<Plain>>
-        ensures { Gives (λ x. seen self.now.tokens.now x) result (spec.climb (length self.now.tokens.now) (spec.expression (length self.now.tokens.now) parts) (length self.now.tokens.now) least from first height (rest self.now.tokens.now at)) }
+        ensures { Reads self.now.tokens.now at result (λ n. spec.climb n (spec.expression n parts) n least from first height) }
     {
         let mut from = from;
         let mut made = first;
@@ -626,7 +626,7 @@ impl Parser<'_> {
         at: usize,
         parts: u32,
     ) -> Read<Expr<Plain>>
-        ensures { Gives (λ x. seen self.now.tokens.now x) result (spec.suffix (length self.now.tokens.now) (spec.expression (length self.now.tokens.now) parts) operator left height (rest self.now.tokens.now at)) }
+        ensures { Reads self.now.tokens.now at result (λ n. spec.suffix n (spec.expression n parts) operator left height) }
     {
         match operator {
             Infix::Init => {

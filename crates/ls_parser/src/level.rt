@@ -8,7 +8,7 @@ use ls_ops::Op;
 
 /// The levels of precedence, the loosest first.
 #[derive(Clone, Copy, Debug, PartialEq, Eq)]
-pub enum Level {
+pub(crate) enum Level {
     Expr,
     Init,
     Delay,
@@ -25,7 +25,7 @@ pub enum Level {
 
 /// An operator that stands behind its left operand.
 #[derive(Clone, Copy, Debug, PartialEq, Eq)]
-pub enum Infix {
+pub(crate) enum Infix {
     Init,
     Fby,
     When,
@@ -34,7 +34,7 @@ pub enum Infix {
 }
 
 impl Level {
-    pub fn rank(self) -> u8
+    pub(crate) fn rank(self) -> u8
         ensures { result ≡ rank self }
     {
         match self {
@@ -54,7 +54,7 @@ impl Level {
     }
 
     /// The level of the left operand of an operator of this level.
-    pub fn left(self) -> Level
+    pub(crate) fn left(self) -> Level
         ensures { result ≡ left self }
     {
         match self {
@@ -66,7 +66,7 @@ impl Level {
     }
 
     /// The level of the right operand of an operator of this level.
-    pub fn right(self) -> Level
+    pub(crate) fn right(self) -> Level
         ensures { result ≡ right self }
     {
         match self {
@@ -83,7 +83,7 @@ impl Level {
 
 impl Infix {
     /// The operator that a word is behind an operand.
-    pub fn of(word: Fixed) -> Option<Infix>
+    pub(crate) fn of(word: Fixed) -> Option<Infix>
         ensures { result ≡ infix_of word }
     {
         match word {
@@ -109,7 +109,7 @@ impl Infix {
         }
     }
 
-    pub fn level(self) -> Level
+    pub(crate) fn level(self) -> Level
         ensures { result ≡ level_of self }
     {
         match self {

@@ -9,7 +9,7 @@ mod file;
 mod level;
 mod patterns;
 
-pub use cursor::{Parser, Read, Stop, taller};
+pub(crate) use cursor::{Parser, Read, Stop, taller};
 pub use definitions::SyntaxFault;
-pub use file::{one_tree, parse};
-pub use level::{Infix, Level};
+pub use file::{one_stop, one_tree, parse};
+pub(crate) use level::{Infix, Level};

@@ -1,7 +1,7 @@
 //! Patterns.
 
 ghost use Rattle.std.specs.Prelude.{◌≡◌, ◌+◌, ◌≤◌, ◌<◌, length};
-ghost use Rattle.ls_parser.specs.Reading.{rest, seen, Gives};
+ghost use Rattle.ls_parser.specs.Reading.{Reads};
 ghost use Rattle.ls_parser.specs.Patterns as spec;
 
 use crate::{Parser, Read, Stop, taller};
@@ -13,8 +13,8 @@ impl Parser<'_> {
     /// A pattern, of which the parts nest up to a depth.
     #[cycle(pat)]
     #[tactic(auto, unfolding(crate::specs::Patterns::pattern))]
-    pub fn pattern(&self, at: usize, depth: u32) -> Read<Pat>
-        ensures { Gives (λ x. seen self.now.tokens.now x) result (spec.pattern (length self.now.tokens.now) depth (rest self.now.tokens.now at)) }
+    pub(crate) fn pattern(&self, at: usize, depth: u32) -> Read<Pat>
+        ensures { Reads self.now.tokens.now at result (λ n. spec.pattern n depth) }
     {
         if depth == 0 {
             return Err(Stop::Fault);
@@ -26,7 +26,7 @@ impl Parser<'_> {
     #[cycle(pat)]
     #[tactic(auto, unfolding(crate::specs::Patterns::layer))]
     fn pattern_of(&self, at: usize, parts: u32) -> Read<Pat>
-        ensures { Gives (λ x. seen self.now.tokens.now x) result (spec.layer (length self.now.tokens.now) (spec.pattern (length self.now.tokens.now) parts) (rest self.now.tokens.now at)) }
+        ensures { Reads self.now.tokens.now at result (λ n. spec.layer n (spec.pattern n parts)) }
     {
         if self.is(at, Fixed::ParenLeft) {
             let at = self.word(at, Fixed::ParenLeft)?;
@@ -44,7 +44,7 @@ impl Parser<'_> {
     #[cycle(pat)]
     #[tactic(auto, unfolding(crate::specs::Patterns::inner))]
     fn pattern_inside(&self, at: usize, parts: u32) -> Read<Pat>
-        ensures { Gives (λ x. seen self.now.tokens.now x) result (spec.inner (length self.now.tokens.now) (spec.pattern (length self.now.tokens.now) parts) (rest self.now.tokens.now at)) }
+        ensures { Reads self.now.tokens.now at result (λ n. spec.inner n (spec.pattern n parts)) }
     {
         if self.is(at, Fixed::ParenRight) {
             let at = self.word(at, Fixed::ParenRight)?;
@@ -63,7 +63,7 @@ impl Parser<'_> {
     #[cycle(pat)]
     #[tactic(auto, unfolding(crate::specs::Patterns::parts_from))]
     fn pattern_parts(&self, first: Pat, height: u32, at: usize, parts: u32) -> Read<Pat>
-        ensures { Gives (λ x. seen self.now.tokens.now x) result (spec.parts_from (length self.now.tokens.now) (spec.pattern (length self.now.tokens.now) parts) first height (rest self.now.tokens.now at)) }
+        ensures { Reads self.now.tokens.now at result (λ n. spec.parts_from n (spec.pattern n parts) first height) }
     {
         let mut inner = List::new(self.alloc);
         inner.push(first)?;

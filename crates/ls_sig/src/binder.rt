@@ -3,7 +3,7 @@
 ghost use Rattle.std.specs.Prelude.{◌≡◌, IfOk};
 
 use ls_ast::FileOf;
-use ls_base::{NoMemory, NoteCopy};
+use ls_base::{List, NoMemory, NoteCopy};
 use ls_terms::{ClockTerm, TypeTerm};
 use std::alloc::Global;
 
@@ -42,6 +42,10 @@ pub struct Note {
     pub bound: Binder,
     pub ty: TypeTerm,
     pub ck: ClockTerm,
+    /// The variables, by their numbers among those that the definition binds, at whose instants
+    /// of presence and truth the expression restarts, beside those at which its place does. The
+    /// list is empty in every annotated file; it is filled where a compiler dissolves resets.
+    pub restarts: List<u32>,
 }
 
 /// A file whose names are resolved.
@@ -80,6 +84,7 @@ impl NoteCopy for Note {
             bound: self.bound,
             ty: self.ty.copy(alloc)?,
             ck: self.ck.copy(alloc)?,
+            restarts: self.restarts.copy(alloc)?,
         })
     }
 }

@@ -1,6 +1,6 @@
-//! What the walk through a body asks of notes, and of the enumerations of a file.
+//! What notes tell of their expressions.
 
-ghost use Rattle.std.specs.Prelude.{◌≡◌, Bool, ℕ, Option};
+ghost use Rattle.std.specs.Prelude.{◌≡◌, Bool};
 ghost use Rattle.ls_sig.specs.Notes as spec;
 
 use crate::binder::{Note, TypeNote};
@@ -12,14 +12,6 @@ pub trait SignalNote {
 
     fn is_signal(&self) -> bool
         ensures { result ≡ signal self.now };
-}
-
-/// What tells the place of a constructor in its enumeration, by the number of its name.
-pub trait CasePlaces {
-    ghost place: { Self → ℕ → Option ℕ };
-
-    fn place(&self, name: u32) -> Option<u32>
-        ensures { result ≡ place self.now name };
 }
 
 fn is_signal_type(ty: &TypeTerm) -> bool

@@ -10,10 +10,13 @@ fn clock(alloc: Global) -> Result<ClockTerm, NoMemory> {
 }
 
 fn note(alloc: Global) -> Result<Note, NoMemory> {
+    let mut restarts = List::new(alloc);
+    restarts.push(6)?;
     Ok(Note {
         bound: Binder::Case(1, 2),
         ty: TypeTerm::Signal(Boxed::new(alloc, TypeTerm::Int)?),
         ck: clock(alloc)?,
+        restarts,
     })
 }
 

@@ -102,27 +102,27 @@ impl Term for ClockTerm {
     }
 
     fn put(&self, alloc: Global, by: &Subst<ClockTerm>) -> Result<ClockTerm, NoMemory> {
-        put(self, alloc, by)
+        put(alloc, self, by)
     }
 }
 
 #[cycle(put)]
 fn put_all(
-    all: &[ClockTerm],
     alloc: Global,
+    all: &[ClockTerm],
     by: &Subst<ClockTerm>,
 ) -> Result<List<ClockTerm>, NoMemory>
     ensures { IfOk result (λ r. r ≡ map (spec.apply (first by.now.list)) all.now) }
 {
     let mut done = List::new(alloc);
     for t in all {
-        done.push(put(t, alloc, by)?)?;
+        done.push(put(alloc, t, by)?)?;
     }
     Ok(done)
 }
 
 #[cycle(put)]
-fn put(t: &ClockTerm, alloc: Global, by: &Subst<ClockTerm>) -> Result<ClockTerm, NoMemory>
+fn put(alloc: Global, t: &ClockTerm, by: &Subst<ClockTerm>) -> Result<ClockTerm, NoMemory>
     ensures { IfOk result (λ r. r ≡ spec.apply (first by.now.list) t.now) }
 {
     match t {
@@ -131,20 +131,20 @@ fn put(t: &ClockTerm, alloc: Global, by: &Subst<ClockTerm>) -> Result<ClockTerm,
             None => Ok(ClockTerm::Var(*x)),
         },
         ClockTerm::On(of, name, case) => Ok(ClockTerm::On(
-            Boxed::new(alloc, put(of.get(), alloc, by)?)?,
+            Boxed::new(alloc, put(alloc, of.get(), by)?)?,
             *name,
             *case,
         )),
         ClockTerm::Pointwise => Ok(ClockTerm::Pointwise),
         ClockTerm::Arrow(all, to) => Ok(ClockTerm::Arrow(
-            put_all(all.as_slice(), alloc, by)?,
-            Boxed::new(alloc, put(to.get(), alloc, by)?)?,
+            put_all(alloc, all.as_slice(), by)?,
+            Boxed::new(alloc, put(alloc, to.get(), by)?)?,
         )),
     }
 }
 
 #[cycle(copy)]
-fn copy_all(all: &[ClockTerm], alloc: Global) -> Result<List<ClockTerm>, NoMemory>
+fn copy_all(alloc: Global, all: &[ClockTerm]) -> Result<List<ClockTerm>, NoMemory>
     ensures { IfOk result (λ r. r ≡ all.now) }
 {
     let mut done = List::new(alloc);
@@ -164,7 +164,7 @@ impl NoteCopy for ClockTerm {
             }
             ClockTerm::Pointwise => Ok(ClockTerm::Pointwise),
             ClockTerm::Arrow(all, to) => Ok(ClockTerm::Arrow(
-                copy_all(all.as_slice(), alloc)?,
+                copy_all(alloc, all.as_slice())?,
                 Boxed::new(alloc, to.get().copy(alloc)?)?,
             )),
         }

@@ -6,6 +6,3 @@ mod types;
 
 pub use clocks::ClockTerm;
 pub use types::{Kind, TypeTerm};
-
-#[cfg(test)]
-mod tests;

@@ -125,27 +125,27 @@ impl Term for TypeTerm {
     }
 
     fn put(&self, alloc: Global, by: &Subst<TypeTerm>) -> Result<TypeTerm, NoMemory> {
-        put(self, alloc, by)
+        put(alloc, self, by)
     }
 }
 
 #[cycle(put)]
 fn put_all(
-    all: &[TypeTerm],
     alloc: Global,
+    all: &[TypeTerm],
     by: &Subst<TypeTerm>,
 ) -> Result<List<TypeTerm>, NoMemory>
     ensures { IfOk result (λ r. r ≡ map (spec.apply (first by.now.list)) all.now) }
 {
     let mut done = List::new(alloc);
     for t in all {
-        done.push(put(t, alloc, by)?)?;
+        done.push(put(alloc, t, by)?)?;
     }
     Ok(done)
 }
 
 #[cycle(put)]
-fn put(t: &TypeTerm, alloc: Global, by: &Subst<TypeTerm>) -> Result<TypeTerm, NoMemory>
+fn put(alloc: Global, t: &TypeTerm, by: &Subst<TypeTerm>) -> Result<TypeTerm, NoMemory>
     ensures { IfOk result (λ r. r ≡ spec.apply (first by.now.list) t.now) }
 {
     match t {
@@ -159,18 +159,18 @@ fn put(t: &TypeTerm, alloc: Global, by: &Subst<TypeTerm>) -> Result<TypeTerm, No
         TypeTerm::Text => Ok(TypeTerm::Text),
         TypeTerm::Unit => Ok(TypeTerm::Unit),
         TypeTerm::Enum(x) => Ok(TypeTerm::Enum(*x)),
-        TypeTerm::Tuple(all) => Ok(TypeTerm::Tuple(put_all(all.as_slice(), alloc, by)?)),
+        TypeTerm::Tuple(all) => Ok(TypeTerm::Tuple(put_all(alloc, all.as_slice(), by)?)),
         TypeTerm::Arrow(kind, all, to) => Ok(TypeTerm::Arrow(
             *kind,
-            put_all(all.as_slice(), alloc, by)?,
-            Boxed::new(alloc, put(to.get(), alloc, by)?)?,
+            put_all(alloc, all.as_slice(), by)?,
+            Boxed::new(alloc, put(alloc, to.get(), by)?)?,
         )),
-        TypeTerm::Signal(of) => Ok(TypeTerm::Signal(Boxed::new(alloc, put(of.get(), alloc, by)?)?)),
+        TypeTerm::Signal(of) => Ok(TypeTerm::Signal(Boxed::new(alloc, put(alloc, of.get(), by)?)?)),
     }
 }
 
 #[cycle(copy)]
-fn copy_all(all: &[TypeTerm], alloc: Global) -> Result<List<TypeTerm>, NoMemory>
+fn copy_all(alloc: Global, all: &[TypeTerm]) -> Result<List<TypeTerm>, NoMemory>
     ensures { IfOk result (λ r. r ≡ all.now) }
 {
     let mut done = List::new(alloc);
@@ -191,10 +191,10 @@ impl NoteCopy for TypeTerm {
             TypeTerm::Text => Ok(TypeTerm::Text),
             TypeTerm::Unit => Ok(TypeTerm::Unit),
             TypeTerm::Enum(x) => Ok(TypeTerm::Enum(*x)),
-            TypeTerm::Tuple(all) => Ok(TypeTerm::Tuple(copy_all(all.as_slice(), alloc)?)),
+            TypeTerm::Tuple(all) => Ok(TypeTerm::Tuple(copy_all(alloc, all.as_slice())?)),
             TypeTerm::Arrow(kind, all, to) => Ok(TypeTerm::Arrow(
                 *kind,
-                copy_all(all.as_slice(), alloc)?,
+                copy_all(alloc, all.as_slice())?,
                 Boxed::new(alloc, to.get().copy(alloc)?)?,
             )),
             TypeTerm::Signal(of) => Ok(TypeTerm::Signal(Boxed::new(alloc, of.get().copy(alloc)?)?)),

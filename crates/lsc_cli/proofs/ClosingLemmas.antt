@@ -1,66 +1,108 @@
--- A run and its closing line make the outcome.
-use Rattle.std.proofs.Common.{◌≡◌, ℕ, List, [], ◌++◌, Option, Some, None, true, false, refl, sym, ◌∙◌, ap, subst, arith, length-append}
+-- A run and its closing line.
+use Rattle.std.proofs.Common.{◌≡◌, ℕ, List, [], ◌++◌, Option, Some, None, true, false, refl, sym, ◌∙◌, ap, subst, inl, inr}
 use Rattle.std.specs.Prelude.{IsNone}
 use Rattle.std.specs.Option.{option_map, IfSome}
-use Rattle.std.proofs.lemmas.List.{append-nil, take-append-le}
+use Rattle.std.proofs.lemmas.List.{append-nil}
 use Rattle.ls_base.specs.Outside.{WritesFront}
-use Rattle.sum_model.specs.declared.running_sum.RunningSum.{RunningSum}
-use Rattle.sum_model.specs.RunText.{Run, Stop, AtEnd, AtMost, AtLongLine, AtBadLine, run}
-use Rattle.line_io.specs.Line.{ahead, lines_of}
-use Rattle.lsc_cli.specs.Drive.{IsOver, IsBegun, stop_of, status_at}
-use Rattle.lsc_cli.specs.Outcome.{Outcome, Comes, closing, closing_of, status_of, outcome_of, run_outcome, node_of, most_lines, is_fault}
+use Rattle.line_io.specs.Line.{ahead}
+use Rattle.run_text.specs.RunText.{Node, Stop, AtEnd, AtMost, AtLongLine, AtBadLine, AtAlarm, closing_of}
+use Rattle.run_text.specs.Progress.{Adds, IsOver, IsBegun, IsRead, stop_of}
+use Rattle.run_text.specs.declared.lines.DriveEnd.{DriveEnd}
+use Rattle.run_text.specs.declared.lines.DriveEnd.TheVariants as ends
+use Rattle.run_text.proofs.Texts.{two_texts, front_more}
 use Rattle.lsc_cli.specs.declared.status.Status.{Status}
 use Rattle.lsc_cli.specs.declared.status.Status.TheVariants as statuses
-use Rattle.lsc_cli.specs.declared.lines.DriveEnd.{DriveEnd}
-use Rattle.lsc_cli.specs.declared.lines.DriveEnd.TheVariants as ends
-use Rattle.lsc_cli.proofs.RunLemmas.{two_texts, front_more}
-
--- a front of a text is a front of a longer one
-front_longer : (a b : List ℕ) (old new : Option (List ℕ)) → WritesFront old a new → WritesFront old (a ++ b) new
-front_longer a b old new (n, within, is) =
-    (n, omega (arith, length-append a b, within), is ∙ (λ i. option_map (λ text. text ++ sym (take-append-le n a b within) i) old))
+use Rattle.lsc_cli.specs.Run.{Runs, Closes, IsFinished, IsCut, status_of, status_at}
+use Rattle.lsc_cli.specs.Status.{is_fault}
 
 -- a front of a closing line, behind a text that was written
-front_behind : (text line : List ℕ) (old mid new : Option (List ℕ)) → mid ≡ option_map (λ before. before ++ text) old → WritesFront mid line new → WritesFront old (text ++ line) new
+front_behind : (text line : List ℕ) (old mid new : Option (List ℕ)) → Adds old text mid → WritesFront mid line new → WritesFront old (text ++ line) new
 front_behind text line old mid new is front =
     subst (λ l. WritesFront old (text ++ l) new) (append-nil line) (front_more text line [] old mid new is front)
 
-comes-run : (r : Run) (stop : Stop) (answer : Status) (old mid new : Option (List ℕ)) → r.stop ≡ stop → mid ≡ option_map (λ text. text ++ r.text) old
-    → Comes (closing stop) answer mid new → Comes (outcome_of r) answer old new
-comes-run r stop answer old mid new e written comes = record {
-  status = λ none. comes.status none ∙ ap status_of (sym e);
-  text = λ none. comes.text none ∙ ap (option_map (λ text. text ++ closing_of stop)) written ∙ two_texts old r.text (closing_of stop)
-      ∙ (λ i. option_map (λ text. text ++ (r.text ++ closing_of (sym e i))) old);
-  front = λ fault. subst (λ s. WritesFront old (r.text ++ closing_of s) new) (sym e) (front_behind r.text (closing_of stop) old mid new written (comes.front fault));
+no_fault : (stop : Stop) → is_fault (status_of stop) ≡ false
+no_fault AtEnd = refl
+no_fault AtMost = refl
+no_fault AtLongLine = refl
+no_fault (AtBadLine k) = refl
+no_fault (AtAlarm kind k) = refl
+
+module _ (node : Node) (most : ℕ) (stop : Stop) (answer : Status) (old mid new : Option (List ℕ)) where
+  finished_at : (input : Option (List ℕ)) → IsOver node most input stop old mid → answer ≡ status_of stop → Adds mid (closing_of stop) new
+      → IsFinished node most input answer old new
+  finished_at None over is adds = tt
+  finished_at (Some bytes) over is adds = (
+    record { text = over.0; stop = stop },
+    over.1,
+    is,
+    adds ∙ ap (option_map (λ text. text ++ closing_of stop)) over.2 ∙ two_texts old over.0 (closing_of stop),
+  )
+
+  cut_at : (input : Option (List ℕ)) → IsOver node most input stop old mid → WritesFront mid (closing_of stop) new → IsCut node most input old new
+  cut_at None over front = inr tt
+  cut_at (Some bytes) over front =
+      inr (record { text = over.0; stop = stop }, over.1, front_behind over.0 (closing_of stop) old mid new over.2 front)
+
+  closes : (input left : Option (List ℕ)) → IsOver node most input stop old mid → Closes stop answer mid new → Runs node most input left answer old new
+  closes input left over (inl c) = record {
+    finished = λ none. finished_at input over c.0 c.1;
+    read = λ fault. absurd (let e : false ≡ true = sym (no_fault stop) ∙ ap is_fault (sym c.0 ∙ fault) in cc);
+    cut = λ fault. absurd (let e : false ≡ true = sym (no_fault stop) ∙ ap is_fault (sym c.0 ∙ fault) in cc);
+  }
+  closes input left over (inr c) = record {
+    finished = λ none. absurd (let e : true ≡ false = ap is_fault (sym c.0) ∙ none in cc);
+    read = λ fault. absurd (let e : statuses.WriteFault ≡ statuses.ReadFault = sym c.0 ∙ fault in cc);
+    cut = λ fault. cut_at input over c.1;
+  }
+
+read_failed : (node : Node) (most : ℕ) (input left : Option (List ℕ)) (answer : Status) (old new : Option (List ℕ))
+    → answer ≡ statuses.ReadFault → IsRead node most input left old new → Runs node most input left answer old new
+read_failed node most input left answer old new is read = record {
+  finished = λ none. absurd (let e : true ≡ false = ap is_fault (sym is) ∙ none in cc);
+  read = λ fault. read;
+  cut = λ fault. absurd (let e : statuses.ReadFault ≡ statuses.WriteFault = sym is ∙ fault in cc);
 }
 
-comes-read : (outcome : Outcome) (answer : Status) (old new : Option (List ℕ)) → answer ≡ statuses.ReadFault → Comes outcome answer old new
-comes-read outcome answer old new is = record {
-  status = λ none. absurd (let e : true ≡ false = ap is_fault (sym is) ∙ none in cc);
-  text = λ none. absurd (let e : true ≡ false = ap is_fault (sym is) ∙ none in cc);
-  front = λ fault. absurd (let e : statuses.ReadFault ≡ statuses.WriteFault = sym is ∙ fault in cc);
-}
-
-comes-write : (r : Run) (answer : Status) (old new : Option (List ℕ)) → answer ≡ statuses.WriteFault → WritesFront old r.text new → Comes (outcome_of r) answer old new
-comes-write r answer old new is front = record {
-  status = λ none. absurd (let e : true ≡ false = ap is_fault (sym is) ∙ none in cc);
-  text = λ none. absurd (let e : true ≡ false = ap is_fault (sym is) ∙ none in cc);
-  front = λ fault. front_longer r.text (closing_of r.stop) old new front;
+write_failed : (node : Node) (most : ℕ) (input left : Option (List ℕ)) (answer : Status) (old new : Option (List ℕ))
+    → answer ≡ statuses.WriteFault → IsBegun node most input old new → Runs node most input left answer old new
+write_failed node most input left answer old new is begun = record {
+  finished = λ none. absurd (let e : true ≡ false = ap is_fault (sym is) ∙ none in cc);
+  read = λ fault. absurd (let e : statuses.WriteFault ≡ statuses.ReadFault = sym is ∙ fault in cc);
+  cut = λ fault. inl begun;
 }
 
 -- the run over all that was left, and its closing line
-pub run-closed : (body : RunningSum) (left old mid new : Option (List ℕ)) (end : DriveEnd) (answer : Status)
-    → IfSome (stop_of end) (λ stop. IsOver body most_lines (ahead [] left) stop old mid)
-    → (end ≡ ends.WriteFault → IsBegun body most_lines (ahead [] left) old mid)
-    → IfSome (stop_of end) (λ stop. Comes (closing stop) answer mid new)
+closed_at : (node : Node) (most : ℕ) (input left old mid new : Option (List ℕ)) (end : DriveEnd) (answer : Status)
+    → IfSome (stop_of end) (λ stop. IsOver node most input stop old mid)
+    → (end ≡ ends.ReadFault → IsRead node most input left old mid)
+    → (end ≡ ends.WriteFault → IsBegun node most input old mid)
+    → IfSome (stop_of end) (λ stop. Closes stop answer mid new)
     → (IsNone (stop_of end) → (new ≡ mid) × (answer ≡ status_at end))
-    → IfSome left (λ bytes. Comes (run_outcome body bytes) answer old new)
-run-closed body None old mid new end answer over begun close fault = tt
-run-closed body (Some bytes) old mid new ends.End answer over begun close fault = comes-run _ AtEnd answer old mid new over.0 over.1 close
-run-closed body (Some bytes) old mid new ends.Max answer over begun close fault = comes-run _ AtMost answer old mid new over.0 over.1 close
-run-closed body (Some bytes) old mid new (ends.BadLine k) answer over begun close fault = comes-run _ (AtBadLine k) answer old mid new over.0 over.1 close
-run-closed body (Some bytes) old mid new ends.LongLine answer over begun close fault = comes-run _ AtLongLine answer old mid new over.0 over.1 close
-run-closed body (Some bytes) old mid new ends.ReadFault answer over begun close fault = comes-read (run_outcome body bytes) answer old new (fault refl).1
-run-closed body (Some bytes) old mid new ends.WriteFault answer over begun close fault =
-    comes-write (run (node_of body) most_lines (lines_of bytes)) answer old new (fault refl).1
-    (subst (WritesFront old (run (node_of body) most_lines (lines_of bytes)).text) (sym (fault refl).0) (begun refl))
+    → Runs node most input left answer old new
+closed_at node most input left old mid new ends.End answer over read begun close fault = closes node most AtEnd answer old mid new input left over close
+closed_at node most input left old mid new ends.Max answer over read begun close fault = closes node most AtMost answer old mid new input left over close
+closed_at node most input left old mid new (ends.BadLine k) answer over read begun close fault =
+    closes node most (AtBadLine k) answer old mid new input left over close
+closed_at node most input left old mid new (ends.Alarm kind k) answer over read begun close fault =
+    closes node most (AtAlarm kind k) answer old mid new input left over close
+closed_at node most input left old mid new ends.LongLine answer over read begun close fault = closes node most AtLongLine answer old mid new input left over close
+closed_at node most input left old mid new ends.ReadFault answer over read begun close fault =
+    read_failed node most input left answer old new (fault refl).1 (subst (IsRead node most input left old) (sym (fault refl).0) (read refl))
+closed_at node most input left old mid new ends.WriteFault answer over read begun close fault =
+    write_failed node most input left answer old new (fault refl).1 (subst (IsBegun node most input old) (sym (fault refl).0) (begun refl))
+
+ahead_nothing : (left : Option (List ℕ)) → ahead [] left ≡ left
+ahead_nothing None = refl
+ahead_nothing (Some bytes) = refl
+
+pub run-closed : (node : Node) (most : ℕ) (held : List ℕ) (input left old mid new : Option (List ℕ)) (end : DriveEnd) (answer : Status)
+    → held ≡ []
+    → IfSome (stop_of end) (λ stop. IsOver node most (ahead held input) stop old mid)
+    → (end ≡ ends.ReadFault → IsRead node most (ahead held input) left old mid)
+    → (end ≡ ends.WriteFault → IsBegun node most (ahead held input) old mid)
+    → IfSome (stop_of end) (λ stop. Closes stop answer mid new)
+    → (IsNone (stop_of end) → (new ≡ mid) × (answer ≡ status_at end))
+    → Runs node most input left answer old new
+run-closed node most held input left old mid new end answer none over read begun close fault =
+    subst (λ bytes. Runs node most bytes left answer old new) ((λ i. ahead (none i) input) ∙ ahead_nothing input)
+    (closed_at node most (ahead held input) left old mid new end answer over read begun close fault)

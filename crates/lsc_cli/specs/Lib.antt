@@ -1,8 +1,8 @@
-pub mod Drive
-pub mod IntLine
-pub mod IntText
-pub mod Judged
+pub mod Call
 pub mod Outcome
-pub mod Ready
+pub mod Refusals
+pub mod Run
+pub mod Start
+pub mod Status
 pub mod SumForm
 pub mod Words

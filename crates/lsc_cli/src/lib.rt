@@ -2,14 +2,14 @@
 #![tactic(auto)]
 
 mod call;
-mod exchange;
+mod exec;
 mod form;
-mod lines;
+mod node;
+mod refusal;
+mod run;
 mod status;
 #[cfg(test)]
 mod tests;
 
 pub use call::lsc;
-pub use exchange::Exchange;
-pub use lines::{DriveEnd, drive};
 pub use status::Status;

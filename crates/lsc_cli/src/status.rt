@@ -1,5 +1,6 @@
+//! How the top call ends.
 ghost use Rattle.std.specs.Prelude.{◌≡◌};
-ghost use Rattle.lsc_cli.specs.Outcome.{number_of};
+ghost use Rattle.lsc_cli.specs.Status.{number_of};
 
 /// How the top call ended. Its number is the exit status of the program.
 #[derive(Clone, Copy, Debug, PartialEq, Eq)]

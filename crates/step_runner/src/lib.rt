@@ -1,6 +1,11 @@
-//! The machine that a node runs on, one step for each line of input.
+//! The machine that evaluates step code.
 #![tactic(auto)]
 
+mod inputs;
+mod leaves;
+mod lines;
 mod machine;
+mod rows;
 
 pub use machine::Machine;
+pub use run_text::{AlarmKind, Stepped};

@@ -1,2 +1,3 @@
 pub mod NextInstant
+pub mod RunningLemmas
 pub mod RunningSumLemmas

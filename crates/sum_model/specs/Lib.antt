@@ -1,2 +1,3 @@
-pub mod RunText
+pub mod Inside
+pub mod Running
 pub mod RunningSum

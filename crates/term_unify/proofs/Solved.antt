@@ -1,16 +1,17 @@
-use Rattle.std.proofs.Common.{◌≡◌, ℕ, zero, suc, ◌+◌, ◌<◌, ◌≤◌, true, List, [], ◌∷◌, ◌++◌, Option, Some, None, inl, inr, length, map, take, refl, ap, sym, ◌∙◌, subst, arith, add-one}
+use Rattle.std.proofs.Common.{◌≡◌, ℕ, zero, suc, ◌+◌, ◌<◌, ◌≤◌, Bool, true, List, [], ◌∷◌, ◌++◌, Option, Some, None, inl, inr, length, map, take, refl, ap, sym, ◌∙◌, subst, arith, add-one}
 use Rattle.std.specs.Prelude.{unwrap_or}
 use Rattle.std.specs.List.{slice_get, slice_index}
 use Rattle.std.specs.Option.{option_map}
 use Rattle.std.proofs.lemmas.List.{length-map}
 use Rattle.std.proofs.lemmas.Option.{slice_get_within, slice_get-map}
 use Rattle.term_unify.specs.Terms.{total, first}
-use Rattle.term_unify.specs.Graph.{value, IsGraph, AreClasses, JoinsVariables, Respects, Solves, AreWithin}
+use Rattle.term_unify.specs.Graph.{value, taken, IsGraph, AreClasses, JoinsVariables, Respects, Solves, AreWithin}
 use Rattle.term_unify.specs.Order.{IsOrder, sum_below}
 use Rattle.term_unify.specs.Binding.{IsBinding}
 use Rattle.term_unify.specs.declared.laws.Term.{Ghosts}
 use Rattle.term_unify.proofs.Algebra.{Laws}
 use Rattle.term_unify.proofs.Lists.{same_item, got_some, take_more, total-append, total_at, same_list}
+use Rattle.term_unify.proofs.Walking.{taken_alike}
 use Rattle.term_unify.proofs.Bindings.{first_entry}
 
 pub total_sum : {X : Type 0} (f : X → ℕ) (h : ℕ → ℕ) (xs : List X) (n : ℕ) → n ≤ length xs → ((i : ℕ) (x : X) → i < n → slice_get xs i ≡ Some x → f x ≡ h i)
@@ -74,8 +75,8 @@ module _ {T : Type 0} (A : Ghosts T) (L : Laws A) where
 
   -- ---- a finished substitution
 
-  module _ (ts : List T) (firsts cls order : List ℕ) (limit : ℕ) (list : List (ℕ × T)) (G : IsGraph A ts firsts) (K : AreClasses A ts firsts cls)
-      (J : JoinsVariables A ts (length ts) (slice_index cls)) (O : IsOrder A ts firsts cls limit order) (B : IsBinding A ts cls order (length order) list) where
+  module _ (ts : List T) (firsts cls order : List ℕ) (free : Bool) (limit : ℕ) (list : List (ℕ × T)) (G : IsGraph A ts firsts) (K : AreClasses A ts firsts cls)
+      (J : JoinsVariables A ts (length ts) (slice_index cls)) (O : IsOrder A ts firsts cls free limit order) (B : IsBinding A ts cls order (length order) list) where
     abbrev rho : ℕ → Option T
     rho = first list
 
@@ -223,15 +224,15 @@ module _ {T : Type 0} (A : Ghosts T) (L : Laws A) where
         let m = O.small (slice_index cls r.0) in
         omega (arith, a, b, m)
 
-    pub entry_stands : (k : ℕ) (e : ℕ × T) → slice_get list k ≡ Some e → A.stands e.1 ≡ true
+    pub entry_stands : (k : ℕ) (e : ℕ × T) → slice_get list k ≡ Some e → taken A free e.1 ≡ true
     entry_stands k e at =
         let r = B.listed k e at in
         let may = O.stands r.0 e.0 r.2 r.3 r.4 r.5 r.6 in
-        ap A.stands r.10 ∙ go r.3 may (slice_index cls r.0) r.6 (K.root r.0 (slice_get_within ts r.0 r.2 r.4)) (A.var_of r.3) refl
+        ap (taken A free) r.10 ∙ go r.3 may (slice_index cls r.0) r.6 (K.root r.0 (slice_get_within ts r.0 r.2 r.4)) (A.var_of r.3) refl
       where
-        go : (s : T) → A.stands s ≡ true → (c : ℕ) → slice_get ts c ≡ Some s → slice_index cls c ≡ c → (o : Option ℕ) → A.var_of s ≡ o → A.stands (A.apply rho s) ≡ true
-        go s may c at-s self None e = L.alike_stands (A.apply rho s) s (L.apply_alike rho s e) ∙ may
-        go s may c at-s self (Some y) e = ap A.stands (own_stays c y s at-s self e) ∙ may
+        go : (s : T) → taken A free s ≡ true → (c : ℕ) → slice_get ts c ≡ Some s → slice_index cls c ≡ c → (o : Option ℕ) → A.var_of s ≡ o → taken A free (A.apply rho s) ≡ true
+        go s may c at-s self None e = taken_alike A L free (A.apply rho s) s (L.apply_alike rho s e) ∙ may
+        go s may c at-s self (Some y) e = ap (taken A free) (own_stays c y s at-s self e) ∙ may
 
     -- ---- no value holds a listed variable
 

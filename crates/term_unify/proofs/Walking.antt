@@ -1,12 +1,12 @@
 use Rattle.std.proofs.Common.{◌≡◌, ◌≢◌, ℕ, zero, suc, ◌+◌, ◌<◌, ◌≤◌, ◌-◌, Bool, true, false, List, [], ◌∷◌, ◌++◌, Option, Some, None, ◌⊎◌, inl, inr, length, get_or, set, map, take, refl, ap, sym, ◌∙◌, subst, arith, add-one, Bor}
 use Rattle.std.specs.List.{slice_get, slice_index, slice_set}
 use Rattle.std.specs.Option.{option_map}
-use Rattle.std.specs.Prelude.{replicate, unwrap_or}
+use Rattle.std.specs.Prelude.{◌||◌, replicate, unwrap_or}
 use Rattle.std.proofs.lemmas.List.{length-replicate}
 use Rattle.std.proofs.lemmas.List.{length-set, length-map}
 use Rattle.std.proofs.lemmas.Option.{slice_get_within, slice_get-map}
 use Rattle.term_unify.specs.Terms.{total}
-use Rattle.term_unify.specs.Graph.{nodes, value, IsGraph, AreClasses, Respects, IsAdmissible}
+use Rattle.term_unify.specs.Graph.{nodes, value, taken, IsGraph, AreClasses, Respects, IsAllowed}
 use Rattle.term_unify.specs.Order.{IsWalk, sum_below}
 use Rattle.term_unify.specs.declared.laws.Term.{Ghosts}
 use Rattle.term_unify.proofs.Algebra.{Laws}
@@ -221,11 +221,20 @@ module _ {T : Type 0} (A : Ghosts T) (L : Laws A) (ts : List T) (first cls : Lis
       let l = low_sum A L ts first cls sizes' order' G W by R root (at + 1) t v here at-v (omega (arith, below)) in
       omega (arith, m, l, small, over, fits)
 
+-- a variable may take a variable's place
+pub taken_var : {T : Type 0} (A : Ghosts T) (L : Laws A) (free : Bool) (t : T) (x : ℕ) → A.var_of t ≡ Some x → taken A free t ≡ true
+taken_var A L true t x var = refl
+taken_var A L false t x var = L.var_stands t x var
+
+-- one head, one answer
+pub taken_alike : {T : Type 0} (A : Ghosts T) (L : Laws A) (free : Bool) (s t : T) → A.alike s t ≡ true → taken A free s ≡ taken A free t
+taken_alike A L free s t same = ap (λ b. free || b) (L.alike_stands s t same)
+
 -- the classes of the first nodes have their sizes
-pub record Ordered {T : Type 0} (A : Ghosts T) (ts : List T) (cls sizes : List ℕ) (limit most : ℕ) : Type 0 where
+pub record Ordered {T : Type 0} (A : Ghosts T) (ts : List T) (cls sizes : List ℕ) (free : Bool) (limit most : ℕ) : Type 0 where
   pub small : (r : ℕ) → slice_index sizes r ≤ limit
   pub all : (i x : ℕ) (t : T) → i < most → slice_get ts i ≡ Some t → A.var_of t ≡ Some x → 0 < slice_index sizes (slice_index cls i)
-  pub stands : (i x : ℕ) (t s : T) → i < most → slice_get ts i ≡ Some t → A.var_of t ≡ Some x → slice_get ts (slice_index cls i) ≡ Some s → A.stands s ≡ true
+  pub stands : (i x : ℕ) (t s : T) → i < most → slice_get ts i ≡ Some t → A.var_of t ≡ Some x → slice_get ts (slice_index cls i) ≡ Some s → taken A free s ≡ true
 
 pub zero_at : (n r : ℕ) → slice_index (replicate n 0) r ≡ 0
 zero_at zero r = refl
@@ -250,8 +259,8 @@ walk_starts A ts first cls sizes n is many =
       low = λ by R r v e. let z = zero_s r in omega (arith, z);
     }
 
-pub ordered_starts : {T : Type 0} (A : Ghosts T) (ts : List T) (cls sizes : List ℕ) (n limit : ℕ) → sizes ≡ replicate n 0 → Ordered A ts cls sizes limit 0
-ordered_starts A ts cls sizes n limit is = record {
+pub ordered_starts : {T : Type 0} (A : Ghosts T) (ts : List T) (cls sizes : List ℕ) (free : Bool) (n limit : ℕ) → sizes ≡ replicate n 0 → Ordered A ts cls sizes free limit 0
+ordered_starts A ts cls sizes free n limit is = record {
   small = λ r. let z : slice_index sizes r ≡ 0 = ap (λ z. slice_index z r) is ∙ zero_at n r in omega (arith, z);
   all = λ i x t b at var. absurd (omega arith);
   stands = λ i x t s b at var at'. absurd (omega arith);
@@ -259,8 +268,8 @@ ordered_starts A ts cls sizes n limit is = record {
 
 module _ {T : Type 0} (A : Ghosts T) (L : Laws A) (ts : List T) where
   -- a node that is no variable
-  pub ordered_other : (cls sizes : List ℕ) (limit n : ℕ) (t : T) → slice_get ts n ≡ Some t → A.var_of t ≡ None → Ordered A ts cls sizes limit n → Ordered A ts cls sizes limit (n + 1)
-  ordered_other cls sizes limit n t at none O = record {
+  pub ordered_other : (cls sizes : List ℕ) (free : Bool) (limit n : ℕ) (t : T) → slice_get ts n ≡ Some t → A.var_of t ≡ None → Ordered A ts cls sizes free limit n → Ordered A ts cls sizes free limit (n + 1)
+  ordered_other cls sizes free limit n t at none O = record {
     small = O.small;
     all = λ i x u b at' var. elim (less_or_same i n b) [
       | inl lt ↦ O.all i x u lt at' var
@@ -272,10 +281,10 @@ module _ {T : Type 0} (A : Ghosts T) (L : Laws A) (ts : List T) where
     ];
   }
 
-  pub ordered_more : (cls sizes sizes' : List ℕ) (limit n : ℕ) (s : T) → slice_get ts (slice_index cls n) ≡ Some s → A.stands s ≡ true
+  pub ordered_more : (cls sizes sizes' : List ℕ) (free : Bool) (limit n : ℕ) (s : T) → slice_get ts (slice_index cls n) ≡ Some s → taken A free s ≡ true
       → ((r : ℕ) → slice_index sizes' r ≤ limit) → ((m : ℕ) → 0 < slice_index sizes m → slice_index sizes' m ≡ slice_index sizes m) → 0 < slice_index sizes' (slice_index cls n)
-      → Ordered A ts cls sizes limit n → Ordered A ts cls sizes' limit (n + 1)
-  ordered_more cls sizes sizes' limit n s at may small kept done O = record {
+      → Ordered A ts cls sizes free limit n → Ordered A ts cls sizes' free limit (n + 1)
+  ordered_more cls sizes sizes' free limit n s at may small kept done O = record {
     small = small;
     all = λ i x u b at' var. elim (less_or_same i n b) [
       | inl lt ↦ let p = O.all i x u lt at' var in let k = kept (slice_index cls i) p in omega (arith, p, k)
@@ -283,41 +292,41 @@ module _ {T : Type 0} (A : Ghosts T) (L : Laws A) (ts : List T) where
     ];
     stands = λ i x u s' b at' var at-s. elim (less_or_same i n b) [
       | inl lt ↦ O.stands i x u s' lt at' var at-s
-      | inr eq ↦ let d : s' ≡ s = same_item ts (slice_index cls n) s' s (ap (λ m. slice_get ts (slice_index cls m)) (sym eq) ∙ at-s) at in ap A.stands d ∙ may
+      | inr eq ↦ let d : s' ≡ s = same_item ts (slice_index cls n) s' s (ap (λ m. slice_get ts (slice_index cls m)) (sym eq) ∙ at-s) at in ap (taken A free) d ∙ may
     ];
   }
 
   -- the value of a variable under a substitution that is allowed
-  pub allowed_value : (limit : ℕ) (by : ℕ → Option T) (t : T) (x : ℕ) → 1 ≤ limit → IsAdmissible A limit by → A.var_of t ≡ Some x → (A.size (A.apply by t) ≤ limit) × (A.stands (A.apply by t) ≡ true)
-  allowed_value limit by t x some ok var = go (by x) refl
+  pub allowed_value : (free : Bool) (limit : ℕ) (by : ℕ → Option T) (t : T) (x : ℕ) → 1 ≤ limit → IsAllowed A free limit by → A.var_of t ≡ Some x → (A.size (A.apply by t) ≤ limit) × (taken A free (A.apply by t) ≡ true)
+  allowed_value free limit by t x some ok var = go (by x) refl
     where
-      go : (o : Option T) → by x ≡ o → (A.size (A.apply by t) ≤ limit) × (A.stands (A.apply by t) ≡ true)
+      go : (o : Option T) → by x ≡ o → (A.size (A.apply by t) ≤ limit) × (taken A free (A.apply by t) ≡ true)
       go None e =
           let same : A.apply by t ≡ t = L.apply_var by t x var ∙ ap (λ o. unwrap_or o t) e in
           let a = ap A.size same in let b = L.size_is t in let c = ap (total A.size) (L.var_kids t x var) in
-          (omega (arith, a, b, c, some), ap A.stands same ∙ L.var_stands t x var)
+          (omega (arith, a, b, c, some), ap (taken A free) same ∙ taken_var A L free t x var)
       go (Some u) e =
           let same : A.apply by t ≡ u = L.apply_var by t x var ∙ ap (λ o. unwrap_or o t) e in
           let a = ap A.size same in let r = ok x u e in
-          (omega (arith, a, r.0), ap A.stands same ∙ r.1)
+          (omega (arith, a, r.0), ap (taken A free) same ∙ r.1)
 
-  pub stands_before : (by : ℕ → Option T) (s : T) → A.stands (A.apply by s) ≡ true → A.stands s ≡ true
-  stands_before by s may = go (A.var_of s) refl
+  pub taken_before : (free : Bool) (by : ℕ → Option T) (s : T) → taken A free (A.apply by s) ≡ true → taken A free s ≡ true
+  taken_before free by s may = go (A.var_of s) refl
     where
-      go : (o : Option ℕ) → A.var_of s ≡ o → A.stands s ≡ true
-      go None e = sym (L.alike_stands (A.apply by s) s (L.apply_alike by s e)) ∙ may
-      go (Some x) e = L.var_stands s x e
+      go : (o : Option ℕ) → A.var_of s ≡ o → taken A free s ≡ true
+      go None e = sym (taken_alike A L free (A.apply by s) s (L.apply_alike by s e)) ∙ may
+      go (Some x) e = taken_var A L free s x e
 
-  module _ (first cls : List ℕ) (by : ℕ → Option T) (R : Respects A ts cls by) (limit : ℕ) (some : 1 ≤ limit) (ok : IsAdmissible A limit by)
+  module _ (first cls : List ℕ) (by : ℕ → Option T) (R : Respects A ts cls by) (free : Bool) (limit : ℕ) (some : 1 ≤ limit) (ok : IsAllowed A free limit by)
       (n x : ℕ) (t s : T) (at : slice_get ts n ≡ Some t) (var : A.var_of t ≡ Some x) (at-s : slice_get ts (slice_index cls n) ≡ Some s) where
     same_value : A.apply by t ≡ A.apply by s
     same_value =
         let e : Some (A.apply by t) ≡ Some (A.apply by s) =
         sym (ap (option_map (A.apply by)) at) ∙ R n (slice_get_within ts n t at) ∙ ap (option_map (A.apply by)) at-s in cc
 
-    pub stands_clash : A.stands s ≡ false → ⊥
+    pub stands_clash : taken A free s ≡ false → ⊥
     stands_clash off =
-        let a = stands_before by s (sym (ap A.stands same_value) ∙ (allowed_value limit by t x some ok var).1) in cc
+        let a = taken_before free by s (sym (ap (taken A free) same_value) ∙ (allowed_value free limit by t x some ok var).1) in cc
 
     pub root_small : A.size (A.apply by s) ≤ limit
-    root_small = let e = ap A.size same_value in let a = (allowed_value limit by t x some ok var).0 in omega (arith, e, a)
+    root_small = let e = ap A.size same_value in let a = (allowed_value free limit by t x some ok var).0 in omega (arith, e, a)

@@ -1,4 +1,4 @@
-use Rattle.std.specs.Prelude.{◌≡◌, ◌≢◌, ℕ, zero, suc, ◌+◌, ◌<◌, ◌≤◌, ◌==◌, true, List, [], ◌∷◌, ◌++◌, map, length, slice_get, slice_index, slice_set, Option, Some, None, is_some, All, if◌then◌else◌}
+use Rattle.std.specs.Prelude.{◌≡◌, ◌≢◌, ℕ, zero, suc, ◌+◌, ◌<◌, ◌≤◌, ◌==◌, Bool, true, ◌||◌, List, [], ◌∷◌, ◌++◌, map, length, slice_get, slice_index, slice_set, Option, Some, None, is_some, All, if◌then◌else◌}
 use Rattle.std.specs.Option.{option_map, option_and_then, option_map_or}
 use Rattle.std.specs.List.{AllZip}
 use Rattle.std.specs.Borrow.{Bor}
@@ -13,6 +13,22 @@ Unifies A by pairs = All (λ p. A.apply by p.0 ≡ A.apply by p.1) pairs
 -- what stands for a variable has at most so many nodes, and may stand there
 abbrev pub IsAdmissible : {T : Type 0} → Ghosts T → ℕ → (ℕ → Option T) → Type 0
 IsAdmissible {T} A limit by = (x : ℕ) (t : T) → by x ≡ Some t → (A.size t ≤ limit) × (A.stands t ≡ true)
+
+-- what stands for a variable has at most so many nodes
+abbrev pub IsBounded : {T : Type 0} → Ghosts T → ℕ → (ℕ → Option T) → Type 0
+IsBounded {T} A limit by = (x : ℕ) (t : T) → by x ≡ Some t → A.size t ≤ limit
+
+-- whether a term is let take a variable's place, where all are if the variables are free
+abbrev pub taken : {T : Type 0} → Ghosts T → Bool → T → Bool
+taken A free t = free || A.stands t
+
+-- what stands for a variable has at most so many nodes, and is let take its place
+abbrev pub IsAllowed : {T : Type 0} → Ghosts T → Bool → ℕ → (ℕ → Option T) → Type 0
+IsAllowed {T} A free limit by = (x : ℕ) (t : T) → by x ≡ Some t → (A.size t ≤ limit) × (taken A free t ≡ true)
+
+-- a substitution makes of each term what it makes of the term that another one gives
+abbrev pub IsInstanceOf : {T : Type 0} → Ghosts T → (ℕ → Option T) → (ℕ → Option T) → Type 0
+IsInstanceOf {T} A by of = (t : T) → A.apply by (A.apply of t) ≡ A.apply by t
 
 -- ---- the nodes of some terms
 
@@ -39,6 +55,10 @@ Keeps {T} old new = (i : ℕ) (t : T) → slice_get old i ≡ Some t → slice_g
 abbrev pub value : {T : Type 0} → Ghosts T → List T → (ℕ → Option T) → ℕ → Option T
 value A ts by i = option_map (A.apply by) (slice_get ts i)
 
+-- a fact about the terms of two nodes
+abbrev pub AtNodes : {T : Type 0} → List T → ℕ → ℕ → (T → T → Type 0) → Type 0
+AtNodes {T} ts a b fact = (s t : T) → slice_get ts a ≡ Some s → slice_get ts b ≡ Some t → fact s t
+
 -- ---- equations between nodes
 
 -- a function gives both nodes of each equation the same
@@ -60,6 +80,18 @@ abbrev pub JoinsVariables : {T : Type 0} → Ghosts T → List T → ℕ → (�
 JoinsVariables {T} A ts most f =
     (i j : ℕ) (s t : T) (x : ℕ) → i < most → j < most → slice_get ts i ≡ Some s → slice_get ts j ≡ Some t →
     A.var_of s ≡ Some x → A.var_of t ≡ Some x → f i ≡ f j
+
+-- what solves the one equations, as a substitution gives values, solves the others
+abbrev pub SolvesAlso : {T : Type 0} → Ghosts T → List T → List (ℕ × ℕ) → List (ℕ × ℕ) → Type 0
+SolvesAlso {T} A ts these those = (by : ℕ → Option T) → Solves (value A ts by) these → Solves (value A ts by) those
+
+-- no substitution solves the equations
+abbrev pub NoneSolves : {T : Type 0} → Ghosts T → List T → List (ℕ × ℕ) → Type 0
+NoneSolves {T} A ts equal = (by : ℕ → Option T) → Solves (value A ts by) equal → ⊥
+
+-- what solves the equations gives all nodes of a variable the same
+abbrev pub SolvingJoins : {T : Type 0} → Ghosts T → List T → ℕ → List (ℕ × ℕ) → Type 0
+SolvingJoins A ts most equal = (f : ℕ → ℕ) → Solves f equal → JoinsVariables A ts most f
 
 -- ---- classes, by links from each node to one of its class
 
@@ -105,6 +137,19 @@ abbrev pub pair_up : ℕ → ℕ → ℕ → List (ℕ × ℕ)
 pair_up m n zero = []
 pair_up m n (suc k) = pair_up m n k ++ (m + k, n + k) ∷ []
 
+-- an equation more for each part of two nodes
+abbrev pub EquatesParts : {T : Type 0} → Ghosts T → List T → List ℕ → ℕ → ℕ → List (ℕ × ℕ) → List (ℕ × ℕ) → Type 0
+EquatesParts {T} A ts first over under old new =
+    (t : T) → slice_get ts under ≡ Some t → new ≡ old ++ pair_up (slice_index first over) (slice_index first under) (length (A.kids t))
+
+-- the links and the equations to be looked at still serve what the work began with
+abbrev pub StaysClosing : {T : Type 0} → Ghosts T → List T → List ℕ → List ℕ → List (ℕ × ℕ) → List ℕ → List (ℕ × ℕ) → Type 0
+StaysClosing A ts first old_links old new_links new = (goal : List (ℕ × ℕ)) → IsClosing A ts first goal old_links old → IsClosing A ts first goal new_links new
+
+-- what the work began with has no solution
+abbrev pub NeverCloses : {T : Type 0} → Ghosts T → List T → List ℕ → List ℕ → List (ℕ × ℕ) → Type 0
+NeverCloses A ts first links pending = (goal : List (ℕ × ℕ)) → IsClosing A ts first goal links pending → NoneSolves A ts goal
+
 -- the nodes and parts of the first nodes that stand for their class
 abbrev pub live : {T : Type 0} → Ghosts T → List T → List ℕ → ℕ → ℕ
 live A ts links zero = 0
@@ -134,3 +179,7 @@ pub record AreClasses {T : Type 0} (A : Ghosts T) (ts : List T) (first cls : Lis
 -- a substitution gives all nodes of a class one value
 abbrev pub Respects : {T : Type 0} → Ghosts T → List T → List ℕ → (ℕ → Option T) → Type 0
 Respects A ts cls by = (i : ℕ) → i < length ts → value A ts by i ≡ value A ts by (slice_index cls i)
+
+-- each solution of the equations gives all nodes of a class one value
+abbrev pub AllRespect : {T : Type 0} → Ghosts T → List T → List (ℕ × ℕ) → List ℕ → Type 0
+AllRespect {T} A ts equal cls = (by : ℕ → Option T) → Solves (value A ts by) equal → Respects A ts cls by

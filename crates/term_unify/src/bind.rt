@@ -1,9 +1,9 @@
 //! What stands for each variable, from the classes in order.
 
-ghost use Rattle.std.specs.Prelude.{◌≡◌, ◌≢◌, ℕ, ◌+◌, ◌<◌, ◌≤◌, List, length, slice_get, slice_index, Option, Some, None, OnOk, IfOk, All};
+ghost use Rattle.std.specs.Prelude.{◌<◌, length, slice_index, OnOk, IfOk, All};
 ghost use Rattle.term_unify.specs.Graph.{nodes, IsGraph, AreClasses, JoinsVariables};
-ghost use Rattle.term_unify.specs.Order.{IsWalk, IsOrder};
-ghost use Rattle.term_unify.specs.Binding.{AreGroups, IsBinding, IsHandled};
+ghost use Rattle.term_unify.specs.Order.{IsOrder};
+ghost use Rattle.term_unify.specs.Binding.{AreGroups, Binds, IsBinding};
 
 use crate::graph::Graph;
 use crate::laws::Term;
@@ -40,7 +40,7 @@ impl<T: Term> Graph<'_, T> {
     ) -> Result<(), NoMemory>
         requires root { root < length self.now.terms.items }
         requires group { All (λ i. i < length self.now.terms.items) group.now }
-        ensures { OnOk result ((cls sizes order : List ℕ) (p : ℕ) → AreClasses T.Term (nodes self.now.terms.items) self.now.first.items cls → JoinsVariables T.Term (nodes self.now.terms.items) (length self.now.terms.items) (slice_index cls) → IsGraph T.Term (nodes self.now.terms.items) self.now.first.items → IsWalk T.Term (nodes self.now.terms.items) self.now.first.items cls sizes order → slice_get order p ≡ Some root → ((k i : ℕ) → slice_get group.now k ≡ Some i → slice_index cls i ≡ root) → IsBinding T.Term (nodes self.now.terms.items) cls order p done.old.list → IsBinding T.Term (nodes self.now.terms.items) cls order p done.new.list × ((k i x : ℕ) (t s : T) → slice_get group.now k ≡ Some i → slice_get (nodes self.now.terms.items) i ≡ Some t → T.var_of t ≡ Some x → slice_get (nodes self.now.terms.items) root ≡ Some s → IsHandled T.Term done.new.list x s)) }
+        ensures { OnOk result (Binds T.Term (nodes self.now.terms.items) (length self.now.terms.items) self.now.first.items root group.now done.old.list done.new.list) }
     {
         let term = self.terms[root];
         for node in group {
@@ -62,12 +62,13 @@ impl<T: Term> Graph<'_, T> {
         classes: &[usize],
         order: &[usize],
         groups: &Vec<Vec<usize>>,
+        free: bool,
         limit: u32,
     ) -> Result<Subst<T>, NoMemory>
         requires graph { IsGraph T.Term (nodes self.now.terms.items) self.now.first.items }
         requires classes { AreClasses T.Term (nodes self.now.terms.items) self.now.first.items classes.now }
         requires joined { JoinsVariables T.Term (nodes self.now.terms.items) (length self.now.terms.items) (slice_index classes.now) }
-        requires order { IsOrder T.Term (nodes self.now.terms.items) self.now.first.items classes.now limit order.now }
+        requires order { IsOrder T.Term (nodes self.now.terms.items) self.now.first.items classes.now free limit order.now }
         requires groups { AreGroups T.Term (nodes self.now.terms.items) classes.now (length self.now.terms.items) groups.now.items }
         ensures { IfOk result (λ done. IsBinding T.Term (nodes self.now.terms.items) classes.now order.now (length order.now) done.list) }
     {

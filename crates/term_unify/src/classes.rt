@@ -1,7 +1,7 @@
 //! The classes of the nodes that have one value under every unifier.
 
-ghost use Rattle.std.specs.Prelude.{◌≡◌, ◌≢◌, ℕ, ◌+◌, ◌<◌, ◌≤◌, ◌↔◌, ◌++◌, ◌∷◌, [], true, false, List, length, slice_get, slice_index, slice_set, Option, Some, None, OnOk, IfOk, IsErrOf, IsTrue};
-ghost use Rattle.term_unify.specs.Graph.{nodes, value, rank, work, pair_up, IsGraph, IsForest, IsClosing, AreWithin, AreLabels, AreClasses, Respects, Solves, Leads, Shortened};
+ghost use Rattle.std.specs.Prelude.{◌≡◌, ◌≢◌, ◌<◌, ◌≤◌, ◌++◌, ◌∷◌, [], true, false, length, slice_index, slice_set, None, OnOk, IfOk, IsErrOf, IsTrue};
+ghost use Rattle.term_unify.specs.Graph.{nodes, rank, work, AtNodes, EquatesParts, IsGraph, IsForest, StaysClosing, NeverCloses, NoneSolves, AllRespect, AreWithin, AreLabels, AreClasses, Solves, Leads, Shortened};
 
 use crate::graph::{Equation, Graph};
 use crate::laws::Term;
@@ -54,9 +54,9 @@ impl<T: Term> Graph<'_, T> {
         requires upper { over < length parent.old }
         requires lower { under < length parent.old }
         ensures linked { OnOk result (parent.new ≡ slice_set parent.old under over) }
-        ensures equated { OnOk result ((t : T) → slice_get (nodes self.now.terms.items) under ≡ Some t → pending.new.items ≡ pending.old.items ++ pair_up (slice_index self.now.first.items over) (slice_index self.now.first.items under) (length (T.kids t))) }
-        ensures alike { OnOk result ((s t : T) → slice_get (nodes self.now.terms.items) over ≡ Some s → slice_get (nodes self.now.terms.items) under ≡ Some t → T.var_of t ≡ None → T.alike s t ≡ true) }
-        ensures clash { IsErrOf result UnifyFault.Clash → (s t : T) → slice_get (nodes self.now.terms.items) over ≡ Some s → slice_get (nodes self.now.terms.items) under ≡ Some t → (T.var_of t ≡ None) × (T.alike s t ≡ false) }
+        ensures equated { OnOk result (EquatesParts T.Term (nodes self.now.terms.items) self.now.first.items over under pending.old.items pending.new.items) }
+        ensures alike { OnOk result (AtNodes (nodes self.now.terms.items) over under (λ s t. T.var_of t ≡ None → T.alike s t ≡ true)) }
+        ensures clash { IsErrOf result UnifyFault.Clash → AtNodes (nodes self.now.terms.items) over under (λ s t. (T.var_of t ≡ None) × (T.alike s t ≡ false)) }
     {
         let (upper, lower) = (self.terms[over], self.terms[under]);
         if lower.as_var().is_none() {
@@ -78,8 +78,8 @@ impl<T: Term> Graph<'_, T> {
         requires graph { IsGraph T.Term (nodes self.now.terms.items) self.now.first.items }
         requires upper { over < length self.now.terms.items }
         requires lower { under < length self.now.terms.items }
-        requires same { (s t : T) → slice_get (nodes self.now.terms.items) over ≡ Some s → slice_get (nodes self.now.terms.items) under ≡ Some t → length (T.kids s) ≡ length (T.kids t) }
-        ensures { OnOk result ((t : T) → slice_get (nodes self.now.terms.items) under ≡ Some t → pending.new.items ≡ pending.old.items ++ pair_up (slice_index self.now.first.items over) (slice_index self.now.first.items under) (length (T.kids t))) }
+        requires same { AtNodes (nodes self.now.terms.items) over under (λ s t. length (T.kids s) ≡ length (T.kids t)) }
+        ensures { OnOk result (EquatesParts T.Term (nodes self.now.terms.items) self.now.first.items over under pending.old.items pending.new.items) }
     {
         let (m, n) = (self.first[over], self.first[under]);
         for at in 0..self.terms[under].parts() {
@@ -100,9 +100,9 @@ impl<T: Term> Graph<'_, T> {
         requires forest { IsForest T.Term (nodes self.now.terms.items) parent.old }
         requires one { a < length parent.old }
         requires other { b < length parent.old }
-        ensures closing { OnOk result ((goal : List (ℕ × ℕ)) → IsClosing T.Term (nodes self.now.terms.items) self.now.first.items goal parent.old (pending.old.items ++ (a, b) ∷ []) → IsClosing T.Term (nodes self.now.terms.items) self.now.first.items goal parent.new pending.new.items) }
+        ensures closing { OnOk result (StaysClosing T.Term (nodes self.now.terms.items) self.now.first.items parent.old (pending.old.items ++ (a, b) ∷ []) parent.new pending.new.items) }
         ensures less { OnOk result (work T.Term (nodes self.now.terms.items) parent.new pending.new.items ≤ work T.Term (nodes self.now.terms.items) parent.old pending.old.items) }
-        ensures clash { IsErrOf result UnifyFault.Clash → (goal : List (ℕ × ℕ)) → IsClosing T.Term (nodes self.now.terms.items) self.now.first.items goal parent.old (pending.old.items ++ (a, b) ∷ []) → (by : ℕ → Option T) → Solves (value T.Term (nodes self.now.terms.items) by) goal → ⊥ }
+        ensures clash { IsErrOf result UnifyFault.Clash → NeverCloses T.Term (nodes self.now.terms.items) self.now.first.items parent.old (pending.old.items ++ (a, b) ∷ []) }
     {
         let one = self.find(parent, a);
         let other = self.find(parent, b);
@@ -135,8 +135,8 @@ impl<T: Term> Graph<'_, T> {
         requires within { AreWithin (length self.now.terms.items) equal.items }
         ensures classes { IfOk result (λ cls. AreClasses T.Term (nodes self.now.terms.items) self.now.first.items cls.items) }
         ensures solved { IfOk result (λ cls. Solves (slice_index cls.items) equal.items) }
-        ensures sound { IfOk result (λ cls. (by : ℕ → Option T) → Solves (value T.Term (nodes self.now.terms.items) by) equal.items → Respects T.Term (nodes self.now.terms.items) cls.items by) }
-        ensures clash { IsErrOf result UnifyFault.Clash → (by : ℕ → Option T) → Solves (value T.Term (nodes self.now.terms.items) by) equal.items → ⊥ }
+        ensures sound { IfOk result (λ cls. AllRespect T.Term (nodes self.now.terms.items) equal.items cls.items) }
+        ensures clash { IsErrOf result UnifyFault.Clash → NoneSolves T.Term (nodes self.now.terms.items) equal.items }
     {
         let mut pending = equal;
         let mut parent = Vec::new(alloc);

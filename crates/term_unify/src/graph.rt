@@ -1,7 +1,7 @@
 //! The nodes of the terms of the pairs.
 
 ghost use Rattle.std.specs.Prelude.{◌≡◌, ◌≢◌, ℕ, ◌+◌, ◌<◌, ◌≤◌, ◌↔◌, ◌++◌, length, Option, OnOk, IfOk};
-ghost use Rattle.term_unify.specs.Graph.{nodes, value, Keeps, IsGraph, Solves, AreWithin, Pose, JoinsVariables, Unifies};
+ghost use Rattle.term_unify.specs.Graph.{nodes, value, Keeps, IsGraph, Solves, AreWithin, SolvesAlso, SolvingJoins, Pose, Unifies};
 
 use crate::laws::Term;
 use crate::unifier::Pairs;
@@ -70,9 +70,9 @@ fn join_variables<T: Term>(
     equal: &mut Vec<Equation>,
 ) -> Result<(), AllocError>
     ensures within { OnOk result (AreWithin (length terms.now) equal.old.items → AreWithin (length terms.now) equal.new.items) }
-    ensures sound { OnOk result ((by : ℕ → Option T) → Solves (value T.Term (nodes terms.now) by) equal.old.items → Solves (value T.Term (nodes terms.now) by) equal.new.items) }
-    ensures kept { OnOk result ((by : ℕ → Option T) → Solves (value T.Term (nodes terms.now) by) equal.new.items → Solves (value T.Term (nodes terms.now) by) equal.old.items) }
-    ensures joined { OnOk result ((f : ℕ → ℕ) → Solves f equal.new.items → JoinsVariables T.Term (nodes terms.now) (length terms.now) f) }
+    ensures sound { OnOk result (SolvesAlso T.Term (nodes terms.now) equal.old.items equal.new.items) }
+    ensures kept { OnOk result (SolvesAlso T.Term (nodes terms.now) equal.new.items equal.old.items) }
+    ensures joined { OnOk result (SolvingJoins T.Term (nodes terms.now) (length terms.now) equal.new.items) }
 {
     let mut seen: BTreeMap<u32, usize> = BTreeMap::new(alloc);
     for at in 0..terms.len() {
@@ -98,7 +98,7 @@ impl<'a, T: Term> Graph<'a, T> {
         ensures within { IfOk result (λ r. AreWithin (length r.0.terms.items) r.1.items) }
         ensures sound { IfOk result (λ r. (by : ℕ → Option T) → Unifies T.Term by pairs.now.list → Solves (value T.Term (nodes r.0.terms.items) by) r.1.items) }
         ensures kept { IfOk result (λ r. (by : ℕ → Option T) → Solves (value T.Term (nodes r.0.terms.items) by) r.1.items → Unifies T.Term by pairs.now.list) }
-        ensures joined { IfOk result (λ r. (f : ℕ → ℕ) → Solves f r.1.items → JoinsVariables T.Term (nodes r.0.terms.items) (length r.0.terms.items) f) }
+        ensures joined { IfOk result (λ r. SolvingJoins T.Term (nodes r.0.terms.items) (length r.0.terms.items) r.1.items) }
     {
         let (mut terms, mut equal) = roots(alloc, pairs.list.as_slice())?;
         let first = expand(alloc, &mut terms)?;

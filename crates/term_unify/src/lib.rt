@@ -11,4 +11,4 @@ mod walk;
 
 pub use laws::Term;
 pub use subst::Subst;
-pub use unifier::{Pairs, UnifyFault, unify};
+pub use unifier::{Pairs, UnifyFault, unify, unify_free};

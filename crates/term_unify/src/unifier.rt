@@ -1,8 +1,9 @@
 //! Most general unifiers.
 
-ghost use Rattle.std.specs.Prelude.{◌≡◌, ℕ, ◌≤◌, true, slice_get, Option, Some, None, IfOk, IsErrOf, All};
+ghost use Rattle.std.specs.Prelude.{◌≡◌, ℕ, ◌≤◌, true, Option, IfOk, IsErrOf, All};
 ghost use Rattle.term_unify.specs.Terms.{first};
-ghost use Rattle.term_unify.specs.Graph.{Unifies, IsAdmissible};
+ghost use Rattle.term_unify.specs.Binding.{HoldNoneListed, ListsOnce};
+ghost use Rattle.term_unify.specs.Graph.{taken, Unifies, IsAdmissible, IsBounded, IsAllowed, IsInstanceOf};
 
 use crate::graph::Graph;
 use crate::laws::Term;
@@ -57,6 +58,30 @@ impl From<NoMemory> for UnifyFault {
     }
 }
 
+/// What the two public entries share: whether the variables are free says whether every term may
+/// take the place of one.
+fn solve<T: Term>(
+    alloc: Global,
+    pairs: &Pairs<T>,
+    free: bool,
+    limit: u32,
+) -> Result<Subst<T>, UnifyFault>
+    requires { 1 ≤ limit }
+    ensures unifier { IfOk result (λ s. Unifies T.Term (first s.list) pairs.now.list) }
+    ensures general { IfOk result (λ s. (by : ℕ → Option T) → Unifies T.Term by pairs.now.list → IsInstanceOf T.Term by (first s.list)) }
+    ensures once { IfOk result (λ s. ListsOnce s.list) }
+    ensures done { IfOk result (λ s. HoldNoneListed T.Term s.list) }
+    ensures small { IfOk result (λ s. All (λ e. T.size e.1 ≤ limit) s.list) }
+    ensures stand { IfOk result (λ s. All (λ e. taken T.Term free e.1 ≡ true) s.list) }
+    ensures clash { IsErrOf result UnifyFault.Clash → (by : ℕ → Option T) → Unifies T.Term by pairs.now.list → IsAllowed T.Term free limit by → ⊥ }
+{
+    let (graph, equal) = Graph::of(alloc, pairs)?;
+    let classes = graph.classes(alloc, equal)?;
+    let order = graph.order(alloc, &classes, free, limit)?;
+    let groups = graph.groups(alloc, &classes)?;
+    Ok(graph.bindings(alloc, &classes, &order, &groups, free, limit)?)
+}
+
 /// The most general unifier of the pairs (after Robinson 1965; the nodes of the terms are put into
 /// classes as Huet 1976 does, so a term is never copied while the pairs are solved).
 pub fn unify<T: Term>(alloc: Global, pairs: &Pairs<T>, limit: u32) -> Result<Subst<T>, UnifyFault>
@@ -64,19 +89,37 @@ pub fn unify<T: Term>(alloc: Global, pairs: &Pairs<T>, limit: u32) -> Result<Sub
 
     // What is listed makes both terms of each pair equal, and every unifier is an instance of it.
     ensures unifier { IfOk result (λ s. Unifies T.Term (first s.list) pairs.now.list) }
-    ensures general { IfOk result (λ s. (by : ℕ → Option T) → Unifies T.Term by pairs.now.list → (t : T) → T.apply by (T.apply (first s.list) t) ≡ T.apply by t) }
+    ensures general { IfOk result (λ s. (by : ℕ → Option T) → Unifies T.Term by pairs.now.list → IsInstanceOf T.Term by (first s.list)) }
 
     // No variable is listed twice, and no value holds a listed variable.
-    ensures once { IfOk result (λ s. (k l : ℕ) (e f : ℕ × T) → slice_get s.list k ≡ Some e → slice_get s.list l ≡ Some f → e.0 ≡ f.0 → k ≡ l) }
-    ensures done { IfOk result (λ s. (by : ℕ → Option T) → ((x : ℕ) → first s.list x ≡ None → by x ≡ None) → All (λ e. T.apply by e.1 ≡ e.1) s.list) }
+    ensures once { IfOk result (λ s. ListsOnce s.list) }
+    ensures done { IfOk result (λ s. HoldNoneListed T.Term s.list) }
 
     ensures small { IfOk result (λ s. All (λ e. T.size e.1 ≤ limit) s.list) }
     ensures may_stand { IfOk result (λ s. All (λ e. T.stands e.1 ≡ true) s.list) }
     ensures clash { IsErrOf result UnifyFault.Clash → (by : ℕ → Option T) → Unifies T.Term by pairs.now.list → IsAdmissible T.Term limit by → ⊥ }
 {
-    let (graph, equal) = Graph::of(alloc, pairs)?;
-    let classes = graph.classes(alloc, equal)?;
-    let order = graph.order(alloc, &classes, limit)?;
-    let groups = graph.groups(alloc, &classes)?;
-    Ok(graph.bindings(alloc, &classes, &order, &groups, limit)?)
+    solve(alloc, pairs, false, limit)
+}
+
+/// The most general unifier of the pairs, where every term may take the place of a variable.
+pub fn unify_free<T: Term>(
+    alloc: Global,
+    pairs: &Pairs<T>,
+    limit: u32,
+) -> Result<Subst<T>, UnifyFault>
+    requires { 1 ≤ limit }
+
+    // What is listed makes both terms of each pair equal, and every unifier is an instance of it.
+    ensures unifier { IfOk result (λ s. Unifies T.Term (first s.list) pairs.now.list) }
+    ensures general { IfOk result (λ s. (by : ℕ → Option T) → Unifies T.Term by pairs.now.list → IsInstanceOf T.Term by (first s.list)) }
+
+    // No variable is listed twice, and no value holds a listed variable.
+    ensures once { IfOk result (λ s. ListsOnce s.list) }
+    ensures done { IfOk result (λ s. HoldNoneListed T.Term s.list) }
+
+    ensures small { IfOk result (λ s. All (λ e. T.size e.1 ≤ limit) s.list) }
+    ensures clash { IsErrOf result UnifyFault.Clash → (by : ℕ → Option T) → Unifies T.Term by pairs.now.list → IsBounded T.Term limit by → ⊥ }
+{
+    solve(alloc, pairs, true, limit)
 }

@@ -1,8 +1,8 @@
 //! The classes in an order in which parts come first, and how large their values are.
 
-ghost use Rattle.std.specs.Prelude.{◌≡◌, ◌≢◌, ℕ, ◌+◌, ◌<◌, ◌≤◌, true, List, length, slice_get, slice_index, Option, Some, None, OnOk, IfOk, IsErrOf};
-ghost use Rattle.term_unify.specs.Graph.{nodes, value, IsGraph, AreClasses, Respects, IsAdmissible};
-ghost use Rattle.term_unify.specs.Order.{IsWalk, IsOrder};
+ghost use Rattle.std.specs.Prelude.{◌≡◌, ◌<◌, ◌≤◌, true, length, slice_get, slice_index, Some, OnOk, IfOk, IsErrOf};
+ghost use Rattle.term_unify.specs.Graph.{nodes, taken, IsGraph, AreClasses};
+ghost use Rattle.term_unify.specs.Order.{IsWalk, IsOrder, KeepsSizes, KeepsEntered, StaySmall, NoneIsSmall, NoneIsAllowed};
 
 use crate::graph::Graph;
 use crate::laws::Term;
@@ -17,6 +17,13 @@ struct Walk {
     /// Whether the value is just being looked at.
     entered: Vec<bool>,
     order: Vec<usize>,
+}
+
+/// Whether a term is let take the place of a variable.
+fn may_take<T: Term>(free: bool, term: &T) -> bool
+    ensures { result ≡ taken T.Term free term.now }
+{
+    free || term.may_stand()
 }
 
 impl<T: Term> Graph<'_, T> {
@@ -37,10 +44,10 @@ impl<T: Term> Graph<'_, T> {
         ensures walk { OnOk result (IsWalk T.Term (nodes self.now.terms.items) self.now.first.items classes.now walk.new.sizes.items walk.new.order.items) }
         ensures entered { OnOk result (walk.new.entered.items ≡ walk.old.entered.items) }
         ensures done { OnOk result (0 < slice_index walk.new.sizes.items root) }
-        ensures kept { OnOk result ((r : ℕ) → 0 < slice_index walk.old.sizes.items r → slice_index walk.new.sizes.items r ≡ slice_index walk.old.sizes.items r) }
-        ensures idle { OnOk result ((r : ℕ) → slice_get walk.old.entered.items r ≡ Some true → slice_index walk.old.sizes.items r ≡ 0 → slice_index walk.new.sizes.items r ≡ 0) }
-        ensures small { OnOk result ((most : ℕ) → limit ≤ most → ((r : ℕ) → slice_index walk.old.sizes.items r ≤ most) → (r : ℕ) → slice_index walk.new.sizes.items r ≤ most) }
-        ensures clash { IsErrOf result UnifyFault.Clash → (by : ℕ → Option T) (v : T) → Respects T.Term (nodes self.now.terms.items) classes.now by → value T.Term (nodes self.now.terms.items) by root ≡ Some v → T.size v ≤ limit → ((r : ℕ) (w : T) → slice_get walk.old.entered.items r ≡ Some true → value T.Term (nodes self.now.terms.items) by r ≡ Some w → T.size v < T.size w) → ⊥ }
+        ensures kept { OnOk result (KeepsSizes walk.old.sizes.items walk.new.sizes.items) }
+        ensures idle { OnOk result (KeepsEntered walk.old.entered.items walk.old.sizes.items walk.new.sizes.items) }
+        ensures small { OnOk result (StaySmall limit walk.old.sizes.items walk.new.sizes.items) }
+        ensures clash { IsErrOf result UnifyFault.Clash → NoneIsSmall T.Term (nodes self.now.terms.items) classes.now walk.old.entered.items root limit }
     {
         if walk.sizes[root] > 0 {
             return Ok(());
@@ -64,18 +71,20 @@ impl<T: Term> Graph<'_, T> {
         Ok(())
     }
 
-    /// The classes of the variables and of all that stands below them.
+    /// The classes of the variables and of all that stands below them. If the variables are free,
+    /// every term may take the place of one.
     pub fn order(
         &self,
         alloc: Global,
         classes: &[usize],
+        free: bool,
         limit: u32,
     ) -> Result<Vec<usize>, UnifyFault>
         requires some { 1 ≤ limit }
         requires graph { IsGraph T.Term (nodes self.now.terms.items) self.now.first.items }
         requires classes { AreClasses T.Term (nodes self.now.terms.items) self.now.first.items classes.now }
-        ensures order { IfOk result (λ order. IsOrder T.Term (nodes self.now.terms.items) self.now.first.items classes.now limit order.items) }
-        ensures clash { IsErrOf result UnifyFault.Clash → (by : ℕ → Option T) → Respects T.Term (nodes self.now.terms.items) classes.now by → IsAdmissible T.Term limit by → ⊥ }
+        ensures order { IfOk result (λ order. IsOrder T.Term (nodes self.now.terms.items) self.now.first.items classes.now free limit order.items) }
+        ensures clash { IsErrOf result UnifyFault.Clash → NoneIsAllowed T.Term (nodes self.now.terms.items) classes.now free limit }
     {
         let mut walk = Walk {
             sizes: vec![in alloc; 0; classes.len()]?,
@@ -85,7 +94,7 @@ impl<T: Term> Graph<'_, T> {
         for node in 0..classes.len() {
             if self.terms[node].as_var().is_some() {
                 let root = classes[node];
-                if !self.terms[root].may_stand() {
+                if !may_take(free, self.terms[root]) {
                     return Err(UnifyFault::Clash);
                 }
                 self.visit(classes, &mut walk, root, limit)?;

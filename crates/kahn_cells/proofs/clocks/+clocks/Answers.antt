@@ -1,7 +1,7 @@
 use Rattle.std.specs.Prelude.{OnOk, map}
-use Rattle.ls_sig.specs.Patterns.{joined}
+use Rattle.ls_places.specs.Patterns.{joined}
 use Rattle.std.proofs.Common.{◌≡◌, ◌++◌, ap, ◌∙◌, subst, append_assoc}
-use Rattle.kahn_model.specs.Clocks.{clocks_in}
+use Rattle.ls_places.specs.Clocks.{clocks_in}
 use Rattle.kahn_cells.proofs.NotedForms.{call_none, call_some, merge_is}
 use Rattle.kahn_cells.proofs.clocks.+clocks.Goals as goal
 

@@ -1,7 +1,7 @@
 use Rattle.std.proofs.Common.{◌≡◌, ◌++◌, drop, map}
-use Rattle.kahn_model.specs.Clocks as spec
+use Rattle.ls_places.specs.Clocks as spec
 use Rattle.kahn_cells.specs.Parts as own
-use Rattle.ls_sig.specs.Patterns.{joined}
+use Rattle.ls_places.specs.Patterns.{joined}
 use Rattle.kahn_cells.proofs.clocks.+clocks.Given as goal
 
 abbrev pub invariant-add_all_clocks-loop-e : goal.invariant-add_all_clocks-loop-e

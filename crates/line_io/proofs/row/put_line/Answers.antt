@@ -1,4 +1,4 @@
-use Rattle.std.proofs.Common.{ℕ, ◌∷◌, [], ◌++◌, List, subst}
+use Rattle.std.proofs.Common.{◌∷◌, []}
 use Rattle.line_io.specs.Rows.{cells_text}
 use Rattle.line_io.proofs.RowLemmas.{begins_then, front_then, front_some}
 use Rattle.line_io.proofs.row.put_line.Goals as goal

@@ -1,9 +1,6 @@
 use Rattle.std.proofs.Common.{◌≡◌, ◌+◌, ◌-◌, ◌*◌, length}
 use Rattle.ls_lexer.specs.declared.token.Fixed.TheVariants.{KwAnd, Bar}
-use Rattle.ls_parser.specs.declared.level.Level.TheVariants.{Expr}
-use Rattle.ls_parser.specs.Expressions.{expression}
 use Rattle.ls_parser.specs.Equations as spec
-use Rattle.ls_parser.specs.Patterns.{pattern}
 use Rattle.ls_parser.specs.Reading.{rest, starts, behind, collect}
 use Rattle.ls_parser.proofs.cursor.Parser.+eqs.Given as goal
 
@@ -74,15 +71,15 @@ invariant-equations-turns l =
 
 abbrev pub invariant-arms-turns : goal.invariant-arms-turns
 invariant-arms-turns l =
-    collect (length l.self.tokens.now - l.turn) spec.begins_arm (behind Bar (spec.arm (length l.self.tokens.now) (expression (length l.self.tokens.now) l.parts Expr) (pattern (length l.self.tokens.now) l.parts) (spec.equation_at (length l.self.tokens.now) l.parts) (spec.doing_at (length l.self.tokens.now) l.parts))) l.items l.highest (rest l.self.tokens.now l.at)
-    ≡ collect (length l.self.tokens.now) spec.begins_arm (behind Bar (spec.arm (length l.self.tokens.now) (expression (length l.self.tokens.now) l.parts Expr) (pattern (length l.self.tokens.now) l.parts) (spec.equation_at (length l.self.tokens.now) l.parts) (spec.doing_at (length l.self.tokens.now) l.parts))) l.initial.items l.initial.highest (rest l.self.tokens.now l.initial.at)
+    collect (length l.self.tokens.now - l.turn) spec.begins_arm (behind Bar (spec.of_parts l.parts spec.arm (length l.self.tokens.now))) l.items l.highest (rest l.self.tokens.now l.at)
+    ≡ collect (length l.self.tokens.now) spec.begins_arm (behind Bar (spec.of_parts l.parts spec.arm (length l.self.tokens.now))) l.initial.items l.initial.highest (rest l.self.tokens.now l.initial.at)
 
 abbrev pub invariant-tests-turns : goal.invariant-tests-turns
 invariant-tests-turns l =
-    collect (length l.self.tokens.now - l.turn) (starts Bar) (behind Bar (spec.test (length l.self.tokens.now) (expression (length l.self.tokens.now) l.parts Expr) (pattern (length l.self.tokens.now) l.parts) (spec.equation_at (length l.self.tokens.now) l.parts) (spec.doing_at (length l.self.tokens.now) l.parts))) l.items l.highest (rest l.self.tokens.now l.at)
-    ≡ collect (length l.self.tokens.now) (starts Bar) (behind Bar (spec.test (length l.self.tokens.now) (expression (length l.self.tokens.now) l.parts Expr) (pattern (length l.self.tokens.now) l.parts) (spec.equation_at (length l.self.tokens.now) l.parts) (spec.doing_at (length l.self.tokens.now) l.parts))) l.initial.items l.initial.highest (rest l.self.tokens.now l.initial.at)
+    collect (length l.self.tokens.now - l.turn) (starts Bar) (behind Bar (spec.of_parts l.parts spec.test (length l.self.tokens.now))) l.items l.highest (rest l.self.tokens.now l.at)
+    ≡ collect (length l.self.tokens.now) (starts Bar) (behind Bar (spec.of_parts l.parts spec.test (length l.self.tokens.now))) l.initial.items l.initial.highest (rest l.self.tokens.now l.initial.at)
 
 abbrev pub invariant-states-turns : goal.invariant-states-turns
 invariant-states-turns l =
-    collect (length l.self.tokens.now - l.turn) (starts Bar) (behind Bar (spec.state (length l.self.tokens.now) (expression (length l.self.tokens.now) l.parts Expr) (pattern (length l.self.tokens.now) l.parts) (spec.equation_at (length l.self.tokens.now) l.parts) (spec.doing_at (length l.self.tokens.now) l.parts))) l.items l.highest (rest l.self.tokens.now l.at)
-    ≡ collect (length l.self.tokens.now) (starts Bar) (behind Bar (spec.state (length l.self.tokens.now) (expression (length l.self.tokens.now) l.parts Expr) (pattern (length l.self.tokens.now) l.parts) (spec.equation_at (length l.self.tokens.now) l.parts) (spec.doing_at (length l.self.tokens.now) l.parts))) l.initial.items l.initial.highest (rest l.self.tokens.now l.initial.at)
+    collect (length l.self.tokens.now - l.turn) (starts Bar) (behind Bar (spec.of_parts l.parts spec.state (length l.self.tokens.now))) l.items l.highest (rest l.self.tokens.now l.at)
+    ≡ collect (length l.self.tokens.now) (starts Bar) (behind Bar (spec.of_parts l.parts spec.state (length l.self.tokens.now))) l.initial.items l.initial.highest (rest l.self.tokens.now l.initial.at)

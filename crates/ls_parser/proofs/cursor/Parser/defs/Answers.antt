@@ -1,5 +1,5 @@
 use Rattle.ls_parser.proofs.SoundDefs.{file_is}
-use Rattle.ls_parser.proofs.Exact.{fault_is, answer_is}
+use Rattle.ls_parser.proofs.Exact.{fault_is, answer_is, stop_is}
 use Rattle.ls_parser.proofs.cursor.Parser.defs.Goals as goal
 
 pub returns-clause-file : goal.returns-clause-file
@@ -10,3 +10,6 @@ returns-clause-fault c = fault_is c.args.self.now.tokens.now c.file.result c.fil
 
 pub returns-clause-only : goal.returns-clause-only
 returns-clause-only c = answer_is c.args.self.now.tokens.now c.file.result c.file.ensures
+
+pub returns-clause-stops : goal.returns-clause-stops
+returns-clause-stops c = stop_is c.args.self.now.tokens.now c.file.result c.file.ensures

@@ -12,10 +12,10 @@ use Rattle.term_unify.proofs.Together.{err_is}
 use Rattle.term_unify.proofs.Walking.{Ordered, ordered_other, ordered_more, stands_clash, root_small, no_true}
 use Rattle.term_unify.specs.declared.walk.Walk.{Walk}
 use Rattle.term_unify.proofs.graph.Graph.order.Goals as goal
-use Rattle.term_unify.proofs.graph.Graph.order.Goals.{then-is_some+else-not-may_stand+in_ok-visit, else-is_some}
+use Rattle.term_unify.proofs.graph.Graph.order.Goals.{then-is_some+else-not-may_take+in_ok-visit, else-is_some}
 
-pub returns-then-not-may_stand-clause-clash : goal.returns-then-not-may_stand-clause-clash
-returns-then-not-may_stand-clause-clash g c err by R ok =
+pub returns-then-not-may_take-clause-clash : goal.returns-then-not-may_take-clause-clash
+returns-then-not-may_take-clause-clash g c err by R ok =
     let ts = nodes c.args.self.now.terms.items in
     let n = length-map c.args.self.now.terms.items (λ t. t.now) in
     let h : c.loop-node.node < length c.args.self.now.terms.items = omega (arith, n, c.requires.classes.all, c.loop-node-test.true) in
@@ -25,8 +25,8 @@ returns-then-not-may_stand-clause-clash g c err by R ok =
     let at-s = node_at c.args.self.now.terms.items root c.index-then-is_some.result.now hr c.index-then-is_some.ensures in
     let is : is_some (g.T.Term.var_of c.index.result.now.now) ≡ true = ap is_some (sym c.as_var.ensures) ∙ sym c.is_some.ensures ∙ c.if-is_some.true in
     let var = some_of (g.T.Term.var_of c.index.result.now.now) is in
-    stands_clash g.T.Term (laws_of g.met.T.Term) ts c.args.self.now.first.items c.args.classes.now by R c.args.limit c.requires.some ok c.loop-node.node var.0 c.index.result.now.now
-    c.index-then-is_some.result.now.now at var.1 at-s (sym c.may_stand.ensures ∙ c.if-not-may_stand.true)
+    stands_clash g.T.Term (laws_of g.met.T.Term) ts c.args.self.now.first.items c.args.classes.now by R c.args.free c.args.limit c.requires.some ok c.loop-node.node var.0 c.index.result.now.now
+    c.index-then-is_some.result.now.now at var.1 at-s (sym c.may_take.ensures ∙ c.if-not-may_take.true)
 
 pub returns-in_err-visit-clause-clash : goal.returns-in_err-visit-clause-clash
 returns-in_err-visit-clause-clash g c err by R ok =
@@ -41,7 +41,7 @@ returns-in_err-visit-clause-clash g c err by R ok =
     let var = some_of (g.T.Term.var_of c.index.result.now.now) is in
     let is = err_is c.from_residual-in_err-visit.result _ _ c.from_residual-in_err-visit.ensures.1 err in
     c.in_err-visit.ensures.clash (ap Err (sym is)) by (g.T.Term.apply by c.index-then-is_some.result.now.now) R (ap (option_map (g.T.Term.apply by)) at-s)
-    (root_small g.T.Term (laws_of g.met.T.Term) ts c.args.self.now.first.items c.args.classes.now by R c.args.limit c.requires.some ok c.loop-node.node var.0 c.index.result.now.now
+    (root_small g.T.Term (laws_of g.met.T.Term) ts c.args.self.now.first.items c.args.classes.now by R c.args.free c.args.limit c.requires.some ok c.loop-node.node var.0 c.index.result.now.now
     c.index-then-is_some.result.now.now at var.1 at-s)
     (λ r w on e. absurd (no_true (length c.args.classes.now) r (ap (λ z. slice_get z r) (sym c.loop-node.invariant.entered) ∙ on)))
 
@@ -53,7 +53,7 @@ loop-node-preserved g c =
     let at = node_at c.args.self.now.terms.items c.loop-node.node c.index.result.now h c.index.ensures in
     let root = slice_index c.args.classes.now c.loop-node.node in
     elim c.if-is_some.branch [
-      | then-is_some+else-not-may_stand+in_ok-visit w ↦
+      | then-is_some+else-not-may_take+in_ok-visit w ↦
           let hr : root < length c.args.self.now.terms.items = (let w = c.requires.classes.within c.loop-node.node (omega (arith, n, h)) in omega (arith, n, w)) in
           let at-s = node_at c.args.self.now.terms.items root w.index-then-is_some.result.now hr w.index-then-is_some.ensures in
           let V = w.in_ok-visit.ensures in
@@ -62,9 +62,9 @@ loop-node-preserved g c =
             walk = subst (λ (W : Walk). IsWalk g.T.Term ts c.args.self.now.first.items c.args.classes.now W.sizes.items W.order.items) (sym w.walk-is) V.walk;
             entered = ap (λ (W : Walk). W.entered.items) w.walk-is ∙ V.entered ∙ c.loop-node.invariant.entered;
             ordered =
-                subst (λ (W : Walk). Ordered g.T.Term ts c.args.classes.now W.sizes.items c.args.limit (c.loop-node.node + 1)) (sym w.walk-is)
-                (ordered_more g.T.Term (laws_of g.met.T.Term) ts c.args.classes.now c.loop-node.walk.sizes.items w.visit.new.walk.sizes.items c.args.limit c.loop-node.node
-                w.index-then-is_some.result.now.now at-s (sym w.may_stand.ensures ∙ w.if-not-may_stand.false) (V.small c.args.limit (omega arith) O.small) V.kept V.done O);
+                subst (λ (W : Walk). Ordered g.T.Term ts c.args.classes.now W.sizes.items c.args.free c.args.limit (c.loop-node.node + 1)) (sym w.walk-is)
+                (ordered_more g.T.Term (laws_of g.met.T.Term) ts c.args.classes.now c.loop-node.walk.sizes.items w.visit.new.walk.sizes.items c.args.free c.args.limit c.loop-node.node
+                w.index-then-is_some.result.now.now at-s (sym w.may_take.ensures ∙ w.if-not-may_take.false) (V.small c.args.limit (omega arith) O.small) V.kept V.done O);
           }
       | else-is_some w ↦
           let is : is_some (g.T.Term.var_of c.index.result.now.now) ≡ false = ap is_some (sym c.as_var.ensures) ∙ sym c.is_some.ensures ∙ w.if-is_some.false in
@@ -73,8 +73,8 @@ loop-node-preserved g c =
             walk = subst (λ (W : Walk). IsWalk g.T.Term ts c.args.self.now.first.items c.args.classes.now W.sizes.items W.order.items) (sym w.walk-is) c.loop-node.invariant.walk;
             entered = ap (λ (W : Walk). W.entered.items) w.walk-is ∙ c.loop-node.invariant.entered;
             ordered =
-                subst (λ (W : Walk). Ordered g.T.Term ts c.args.classes.now W.sizes.items c.args.limit (c.loop-node.node + 1)) (sym w.walk-is)
-                (ordered_other g.T.Term (laws_of g.met.T.Term) ts c.args.classes.now c.loop-node.walk.sizes.items c.args.limit c.loop-node.node c.index.result.now.now at none
+                subst (λ (W : Walk). Ordered g.T.Term ts c.args.classes.now W.sizes.items c.args.free c.args.limit (c.loop-node.node + 1)) (sym w.walk-is)
+                (ordered_other g.T.Term (laws_of g.met.T.Term) ts c.args.classes.now c.loop-node.walk.sizes.items c.args.free c.args.limit c.loop-node.node c.index.result.now.now at none
                 c.loop-node.invariant.ordered);
           }
     ]

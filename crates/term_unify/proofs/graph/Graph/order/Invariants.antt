@@ -9,5 +9,5 @@ abbrev pub invariant-loop-node : goal.invariant-loop-node
 invariant-loop-node g l = record {
   walk : IsWalk g.T.Term (nodes l.self.terms.items) l.self.first.items l.classes l.walk.sizes.items l.walk.order.items;
   entered : l.walk.entered.items ≡ replicate (length l.classes) false;
-  ordered : Ordered g.T.Term (nodes l.self.terms.items) l.classes l.walk.sizes.items l.limit l.node;
+  ordered : Ordered g.T.Term (nodes l.self.terms.items) l.classes l.walk.sizes.items l.free l.limit l.node;
 }

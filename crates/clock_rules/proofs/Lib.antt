@@ -1,0 +1,16 @@
+pub mod Annotations
+pub mod Commute
+pub mod Every
+pub mod FactsNatural
+pub mod Finding
+pub mod Fusion
+pub mod Inference
+pub mod Natural
+pub mod Noting
+pub mod OneScheme
+pub mod Principal
+pub mod Reading
+pub mod Renaming
+pub mod Seen
+pub mod Sides
+pub mod Substitution

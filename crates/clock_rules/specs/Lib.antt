@@ -1,0 +1,10 @@
+pub mod Constraints
+pub mod Facts
+pub mod Files
+pub mod Fresh
+pub mod Instances
+pub mod Judged
+pub mod Laws
+pub mod Layers
+pub mod Rules
+pub mod Terms

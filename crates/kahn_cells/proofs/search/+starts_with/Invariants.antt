@@ -1,5 +1,0 @@
-use Rattle.std.proofs.Common.{length}
-use Rattle.kahn_cells.proofs.search.+starts_with.Given as goal
-
-abbrev pub decreases-starts_with : goal.decreases-starts_with
-decreases-starts_with l = length l.q.now

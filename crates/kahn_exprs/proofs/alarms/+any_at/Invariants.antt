@@ -1,5 +1,0 @@
-use Rattle.std.proofs.Common.{length}
-use Rattle.kahn_exprs.proofs.alarms.+any_at.Given as goal
-
-abbrev pub decreases-any_at : goal.decreases-any_at
-decreases-any_at l = length l.parts.now

@@ -1,5 +1,0 @@
-use Rattle.std.proofs.Common.{length}
-use Rattle.kahn_plain.proofs.tests.+tells.Given as goal
-
-abbrev pub decreases-tells : goal.decreases-tells
-decreases-tells l = length l.row.now

@@ -1,6 +1,0 @@
-pub mod Equations
-pub mod Turns
-pub mod Calls
-pub mod Alarms
-pub mod Node
-pub mod Program

@@ -1,0 +1,5 @@
+pub mod Equations
+pub mod Found
+pub mod Layers
+pub mod Ranged
+pub mod Turns

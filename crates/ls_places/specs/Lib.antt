@@ -1,0 +1,10 @@
+pub mod Blocks
+pub mod Built
+pub mod Clocks
+pub mod Definitions
+pub mod Keys
+pub mod Laws
+pub mod Patterns
+pub mod Places
+pub mod Ranges
+pub mod Search

@@ -1,4 +1,0 @@
-pub mod Equations
-pub mod Found
-pub mod Layers
-pub mod Turns

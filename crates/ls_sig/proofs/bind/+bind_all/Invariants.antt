@@ -1,5 +1,0 @@
-use Rattle.std.proofs.Common.{length}
-use Rattle.ls_sig.proofs.bind.+bind_all.Given as goal
-
-abbrev pub decreases-bind_all : goal.decreases-bind_all
-decreases-bind_all g l = length l.names.now

@@ -1,6 +1,0 @@
-use Rattle.std.proofs.Common.{◌≡◌, ◌++◌, drop, map}
-use Rattle.ls_sig.specs.Patterns.{joined, names_of}
-use Rattle.ls_sig.proofs.bind.+names.Given as goal
-
-abbrev pub invariant-add_all_names-loop-pat : goal.invariant-add_all_names-loop-pat
-invariant-add_all_names-loop-pat l = l.done ++ joined (map names_of (drop l.pat-index l.all)) ≡ l.initial.done ++ joined (map names_of l.all)

@@ -1,6 +1,0 @@
-use Rattle.std.proofs.Common.{◌≡◌, map, take}
-use Rattle.ls_sig.specs.Blocks as spec
-use Rattle.ls_sig.proofs.blocks.cases_of.Given as goal
-
-abbrev pub invariant-loop-arm : goal.invariant-loop-arm
-invariant-loop-arm g l = l.done ≡ map (spec.case_of (g.C.CasePlaces.place l.cases)) (take l.arm-index l.all)

@@ -1,6 +1,0 @@
-use Rattle.std.proofs.Common.{◌≡◌, map, take}
-use Rattle.ls_sig.specs.Blocks as spec
-use Rattle.ls_sig.proofs.blocks.strongs_of.Given as goal
-
-abbrev pub invariant-loop-state : goal.invariant-loop-state
-invariant-loop-state g l = l.done ≡ map spec.strong_of (take l.state-index l.all)

@@ -1,6 +1,0 @@
--- The places that a walk has found so far.
-use Rattle.ls_sig.specs.declared.bind.PlacesBuilder.{PlacesBuilder}
-use Rattle.ls_sig.specs.declared.places.Places.{Places}
-
-abbrev pub built : {N : Type 0} → PlacesBuilder N → Places N
-built b = record { vars = b.vars; sites = b.sites; starts = b.starts; names = b.names; resets = b.resets; exprs = b.exprs }

@@ -1,0 +1,82 @@
+//! The lines of refusals are written.
+ghost use Rattle.std.specs.Prelude.{◌≡◌, ◌≢◌, ◌≤◌, ◌⊎◌, length};
+ghost use Rattle.ls_base.specs.Outside.{Rose};
+ghost use Rattle.ls_lexer.specs.declared.fault.LexFault.{LexFault};
+ghost use Rattle.step_text.specs.declared.fault.CodeFault.{CodeFault};
+ghost use Rattle.lsc_cli.specs.Outcome.{Comes, refusal};
+ghost use Rattle.lsc_cli.specs.Refusals.{at_line, code_text, lex_text, syntax_text};
+
+use crate::status::Status;
+use ls_base::{Failed, Line, Sink, write_all};
+use ls_lexer::LexFault;
+use run_text::write_numbered;
+use step_text::CodeFault;
+
+/// Writes the refusal of a file that is no row of tokens.
+pub(crate) fn refuse_tokens<K: Sink>(fault: LexFault, out: &mut K) -> Status
+    requires { fault ≢ LexFault.NoMemory }
+    ensures outcome { Comes (refusal (lex_text fault)) result (K.written out.old) (K.written out.new) }
+    ensures status { (result ≡ Status.Refused) ⊎ (result ≡ Status.WriteFault) }
+    ensures write_fault { result ≡ Status.WriteFault → Rose (K.count out.old) (K.count out.new) }
+{
+    match fault {
+        LexFault::NotUtf8(line) => refuse_at(b"refused: not UTF-8 at line ", line, out),
+        LexFault::Bad(line) => refuse_at(b"refused: bad character at line ", line, out),
+        LexFault::LongText(line) => refuse_at(b"refused: text too long at line ", line, out),
+        LexFault::WideInt(line) => refuse_at(b"refused: integer too wide at line ", line, out),
+        LexFault::OpenComment(line) => {
+            refuse_at(b"refused: comment not closed at line ", line, out)
+        }
+        LexFault::NoMemory => unreachable!(),
+    }
+}
+
+/// Writes the refusal of a text that is no step code.
+pub(crate) fn refuse_code<K: Sink>(fault: CodeFault, out: &mut K) -> Status
+    requires { fault ≢ CodeFault.NoMemory }
+    ensures outcome { Comes (refusal (code_text fault)) result (K.written out.old) (K.written out.new) }
+    ensures status { (result ≡ Status.Refused) ⊎ (result ≡ Status.WriteFault) }
+    ensures write_fault { result ≡ Status.WriteFault → Rose (K.count out.old) (K.count out.new) }
+{
+    match fault {
+        CodeFault::NotCode(line) => refuse_at(b"refused: not code at line ", line, out),
+        CodeFault::BadSlot(line) => refuse_at(b"refused: slot at line ", line, out),
+        CodeFault::BadOrder(line) => refuse_at(b"refused: order at line ", line, out),
+        CodeFault::BadShape(line) => refuse_at(b"refused: shape at line ", line, out),
+        CodeFault::NoMemory => unreachable!(),
+    }
+}
+
+/// Writes the refusal of tokens that are no file.
+pub(crate) fn refuse_syntax<K: Sink>(line: Line, out: &mut K) -> Status
+    ensures outcome { Comes (refusal (syntax_text line)) result (K.written out.old) (K.written out.new) }
+    ensures status { (result ≡ Status.Refused) ⊎ (result ≡ Status.WriteFault) }
+    ensures write_fault { result ≡ Status.WriteFault → Rose (K.count out.old) (K.count out.new) }
+{
+    refuse_at(b"refused: syntax at line ", line, out)
+}
+
+/// Writes the line of a refusal that names a line of the file.
+fn refuse_at<K: Sink>(text: &[u8], line: Line, out: &mut K) -> Status
+    requires { length text.now ≤ 40 }
+    ensures outcome { Comes (refusal (at_line text.now line)) result (K.written out.old) (K.written out.new) }
+    ensures status { (result ≡ Status.Refused) ⊎ (result ≡ Status.WriteFault) }
+    ensures write_fault { result ≡ Status.WriteFault → Rose (K.count out.old) (K.count out.new) }
+{
+    match write_numbered(text, line.0, out) {
+        Ok(()) => Status::Refused,
+        Err(Failed) => Status::WriteFault,
+    }
+}
+
+/// Writes the line of a refusal.
+pub(crate) fn refuse<K: Sink>(line: &[u8], out: &mut K) -> Status
+    ensures outcome { Comes (refusal line.now) result (K.written out.old) (K.written out.new) }
+    ensures status { (result ≡ Status.Refused) ⊎ (result ≡ Status.WriteFault) }
+    ensures write_fault { result ≡ Status.WriteFault → Rose (K.count out.old) (K.count out.new) }
+{
+    match write_all(out, line) {
+        Ok(()) => Status::Refused,
+        Err(Failed) => Status::WriteFault,
+    }
+}

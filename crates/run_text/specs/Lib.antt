@@ -1,0 +1,4 @@
+pub mod Machine
+pub mod OneLine
+pub mod Progress
+pub mod RunText

@@ -1,0 +1,7 @@
+pub mod Places
+pub mod Claims
+pub mod Faults
+pub mod File
+pub mod Notes
+pub mod Resolved
+pub mod After

@@ -1,0 +1,11 @@
+pub mod WordLemmas
+pub mod NumberLemmas
+pub mod LeafLemmas
+pub mod TextLemmas
+pub mod Formed
+pub mod Sizes
+pub mod Places
+pub mod FormLemmas
+pub mod WholeText
+pub mod NameLemmas
+pub mod ReadLemmas

@@ -1,0 +1,11 @@
+pub mod Applied
+pub mod Blocks
+pub mod Layers
+pub mod Made
+pub mod Numbering
+pub mod Refold
+pub mod RefoldEquations
+pub mod Related
+pub mod RelatedEquations
+pub mod Same
+pub mod Twice

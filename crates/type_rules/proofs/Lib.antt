@@ -1,0 +1,13 @@
+pub mod Agreeing
+pub mod Annotations
+pub mod Functions
+pub mod Instances
+pub mod Natural
+pub mod NaturalBodies
+pub mod Noted
+pub mod Placing
+pub mod PlacingBodies
+pub mod Principal
+pub mod Renaming
+pub mod Solving
+pub mod Steps

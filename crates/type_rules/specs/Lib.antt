@@ -1,0 +1,11 @@
+pub mod Annotations
+pub mod Bodies
+pub mod Definitions
+pub mod Demands
+pub mod Expressions
+pub mod Files
+pub mod Laws
+pub mod Numbers
+pub mod Places
+pub mod Principal
+pub mod Schemes

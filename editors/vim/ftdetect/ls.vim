@@ -1,0 +1,1 @@
+autocmd BufRead,BufNewFile *.ls set filetype=ls
