@@ -1,11 +1,13 @@
 -- Cells from the rows of right sides are the cells of a turn.
 use Rattle.std.specs.Prelude.{◌≡◌, refl, ℕ, zero, suc, ◌+◌, ◌-◌, ◌<◌, ◌≤◌, Bool, true, false, List, [], ◌∷◌, ◌++◌, map, Option, Some, None, length}
-use Rattle.std.proofs.Common.{ap, arith, drop, subst, sym, ◌∙◌}
+use Rattle.std.proofs.lemmas.List.{drop_all}
+use Rattle.std.proofs.Common.{ap, arith, drop, get_or, subst, sym, ◌∙◌}
 use Rattle.ls_ast.specs.declared.tree.Expr.{Expr, Expr-F, fold-Expr, fold_out-Expr, out-Expr}
 use Rattle.ls_ast.specs.declared.tree.Pat.{Pat}
 use Rattle.ls_places.specs.Places.{Place, option_list}
 use Rattle.ls_places.specs.Search.{and, guards_of, never, nth, sites_of, start_of, whole_at, whole_of}
 use Rattle.ls_places.specs.declared.places.Named.{Named}
+use Rattle.ls_places.specs.declared.places.Named.TheVariants as named
 use Rattle.ls_places.specs.declared.places.Right.{Right}
 use Rattle.ls_places.specs.declared.places.Right.TheVariants as rhs
 use Rattle.ls_places.specs.declared.places.Site.{Site}
@@ -27,6 +29,7 @@ use Rattle.kahn_model.specs.Functions.{Arg, Said, def, given, nowhere, row_of, s
 use Rattle.kahn_model.specs.Rows.{Row, know, previous}
 use Rattle.kahn_model.specs.Table.{cell_in, written_row}
 use Rattle.kahn_model.specs.Turn
+use Rattle.kahn_cells.proofs.Binds.{one_on}
 use Rattle.kahn_cells.specs.Groups.{picked}
 use Rattle.kahn_exprs.specs.declared.body.Body.{Body}
 use Rattle.kahn_exprs.specs.Body as spec
@@ -74,6 +77,12 @@ whole_none : (all : List (Whole Note)) (k : ℕ) → None ≡ nth all k → whol
 whole_none [] k e = refl
 whole_none (x ∷ all) zero e = absurd (cc)
 whole_none (x ∷ all) (suc k) e = whole_none all k e
+
+-- an item that is found stands in the list
+pub found_within : {A : Type 0} (all : List A) (k : ℕ) (x : A) → Some x ≡ nth all k → k < length all
+found_within [] k x e = absurd (cc)
+found_within (y ∷ all) zero x e = omega arith
+found_within (y ∷ all) (suc k) x e = let p : k < length all = found_within all k x e in omega (arith, p)
 
 module _ (b : Body) where
   -- what stands on a clock that is off is absent
@@ -206,3 +215,57 @@ module _ (b : Body) where
   pub name_is : (m : ℕ) (n : Named) → Some n ≡ nth b.def.now.places.names (m - length b.def.now.params)
       → written_row b.lines 0 (spec.name_cell b m (Some n)) ≡ written_row b.lines 0 (own.name_cell b m)
   name_is m n found = ap (λ z. written_row b.lines 0 (spec.name_cell b m z)) found
+
+  pub none_named : (m : ℕ) → None ≡ nth b.def.now.places.names (m - length b.def.now.params) → written_row b.lines 0 nowhere ≡ written_row b.lines 0 (own.name_cell b m)
+  none_named m found = ap (λ z. written_row b.lines 0 (spec.name_cell b m z)) found
+
+  -- the cells of each kind of clock name
+  named_is : (m : ℕ) (n v : Named) → n ≡ v → written_row b.lines 0 (spec.name_cell b m (Some v)) ≡ written_row b.lines 0 (spec.name_cell b m (Some n))
+  named_is m n v is = sym (ap (λ z. written_row b.lines 0 (spec.name_cell b m (Some z))) is)
+
+  pub clock_named : (m x : ℕ) (n : Named) → n ≡ named.Clock x → written_row b.lines 0 nowhere ≡ written_row b.lines 0 (spec.name_cell b m (Some n))
+  clock_named m x n is = named_is m n (named.Clock x) is
+
+  pub match_named : (m k : ℕ) (n : Named) (all arms : List (Option ℕ)) (p : Place) → n ≡ named.Match k arms p → all ≡ arms
+      → written_row b.lines 0 (own.match_cell b k all) ≡ written_row b.lines 0 (spec.name_cell b m (Some n))
+  match_named m k n all arms p is same = ap (λ z. written_row b.lines 0 (own.match_cell b k z)) same ∙ named_is m n (named.Match k arms p) is
+
+  pub present_named : (m : ℕ) (n : Named) (all xs : List ℕ) (place p : Place) → n ≡ named.Present xs p → all ≡ xs → place ≡ p
+      → written_row b.lines 0 (own.present_cell b all place) ≡ written_row b.lines 0 (spec.name_cell b m (Some n))
+  present_named m n all xs place p is same here =
+      ap (λ z. written_row b.lines 0 (own.present_cell b z place)) same ∙ ap (λ z. written_row b.lines 0 (own.present_cell b xs z)) here ∙ named_is m n (named.Present xs p) is
+
+  pub active_named : (m : ℕ) (n : Named) (all states : own.States) (place p : Place) → n ≡ named.Active states p → all ≡ states → place ≡ p
+      → written_row b.lines 0 (own.active_cell b m all place) ≡ written_row b.lines 0 (spec.name_cell b m (Some n))
+  active_named m n all states place p is same here =
+      ap (λ z. written_row b.lines 0 (own.active_cell b m z place)) same ∙ ap (λ z. written_row b.lines 0 (own.active_cell b m states z)) here ∙ named_is m n (named.Active states p) is
+
+  pub tested_named : (m first : ℕ) (n : Named) (all states : own.States) (place p : Place) → n ≡ named.Tested states p → first ≡ m - 1 → all ≡ states → place ≡ p
+      → written_row b.lines 0 (own.tested_cell b first all place) ≡ written_row b.lines 0 (spec.name_cell b m (Some n))
+  tested_named m first n all states place p is before same here =
+      ap (λ z. written_row b.lines 0 (own.tested_cell b z all place)) before ∙ ap (λ z. written_row b.lines 0 (own.tested_cell b (m - 1) z place)) same
+      ∙ ap (λ z. written_row b.lines 0 (own.tested_cell b (m - 1) states z)) here ∙ named_is m n (named.Tested states p) is
+
+  -- ---- the equations of a variable, the last one first
+
+  -- from the end of the numbers, one step on
+  number_back : (all : List ℕ) (back k : ℕ) → back < length all → k ≡ get_or all (length all - 1 - back) k → k ∷ drop (length all - back) all ≡ drop (length all - (back + 1)) all
+  number_back all back k below is =
+      let same : length all - (back + 1) ≡ length all - 1 - back = omega arith in
+      let on : length all - (back + 1) + 1 ≡ length all - back = omega (arith, below) in
+      ap (λ z. k ∷ drop z all) (sym on) ∙ sym (one_on all (length all - (back + 1)) k (omega (arith, below)) (ap (λ z. get_or all z k) same ∙ sym is))
+
+  pub sites_next : (w : Variable) (o : Row Cell) (all : List ℕ) (back k : ℕ) (done next : own.Standing) → back < length all → k ≡ get_or all (length all - 1 - back) k → own.AddsSite b w k done next
+      → done ≡ written_row b.lines 0 (own.by_numbers b w o (drop (length all - back) all)) → next ≡ written_row b.lines 0 (own.by_numbers b w o (drop (length all - (back + 1)) all))
+  sites_next w o all back k done next below is adds so_far =
+      adds o (drop (length all - back) all) so_far ∙ ap (λ z. written_row b.lines 0 (own.by_numbers b w o z)) (number_back all back k below is)
+
+  -- before the first equation from the end, and after all
+  pub no_sites : (w : Variable) (o : Row Cell) (all : List ℕ) (done : own.Standing) → done ≡ written_row b.lines 0 o → done ≡ written_row b.lines 0 (own.by_numbers b w o (drop (length all - 0) all))
+  no_sites w o all done is = is ∙ ap (λ z. written_row b.lines 0 (own.by_numbers b w o z)) (sym (drop_all (length all - 0) all (omega arith)))
+
+  pub sites_are : (x : ℕ) (w : Variable) (all : List ℕ) (back : ℕ) (done : own.Standing) → length all ≤ back → picked b.def.now.places.sites all ≡ sites_of x b.def.now.places.sites
+      → done ≡ written_row b.lines 0 (own.by_numbers b w (spec.otherwise b x w) (drop (length all - back) all)) → done ≡ written_row b.lines 0 (own.unclocked b x w)
+  sites_are x w all back done past found is =
+      is ∙ ap (λ z. written_row b.lines 0 (own.by_numbers b w (spec.otherwise b x w) (drop z all))) (omega (arith, past))
+      ∙ ap (λ z. written_row b.lines 0 (spec.by_sites b w (spec.otherwise b x w) z)) found

@@ -1,7 +1,7 @@
 //! The rows of blocks and automata, anew from the table that stands. The rows of scrutinees and
 //! guards are taken first, and each cell from them.
 
-ghost use Rattle.std.specs.Prelude.{◌≡◌, ◌+◌, ◌-◌, ◌<◌, ◌^◌, IfOk, length};
+ghost use Rattle.std.specs.Prelude.{◌≡◌, ◌+◌, ◌-◌, ◌<◌, ◌^◌, IfOk, Some, length};
 ghost use Rattle.std.specs.Option.{option_copied};
 ghost use Rattle.kahn_exprs.specs.Body as spec;
 ghost use Rattle.kahn_model.specs.Table as model;
@@ -429,7 +429,33 @@ fn named(d: &Definition, m: u32) -> Option<&Named>
     nth(d.places.names.as_slice(), place)
 }
 
-/// The row of a block's clock name.
+/// The row of a clock name that stands for a block.
+fn named_row<C: Calls>(
+    alloc: Global,
+    body: &Body,
+    call: &C,
+    m: u32,
+    name: &Named,
+) -> Result<List<Option<Cell>>, NoMemory>
+    requires can { C.can call.now body.now }
+    requires number { m + 1 < 2 ^ 32 }
+    ensures { IfOk result (λ r. r ≡ model.written_row body.now.lines 0 (spec.name_cell body.now m (Some name.now))) }
+{
+    match name {
+        Named::Clock(_) => absent_row(alloc, body.lines),
+        Named::Match(k, all, _) => match_row(alloc, body, call, *k, all.as_slice()),
+        Named::Present(all, p) => present_row(alloc, body, all.as_slice(), p.as_slice()),
+        Named::Active(states, p) => {
+            active_row(alloc, body, call, m, states.as_slice(), p.as_slice())
+        }
+        Named::Tested(states, p) => {
+            let first = m.saturating_sub(1);
+            tested_row(alloc, body, call, first, states.as_slice(), p.as_slice())
+        }
+    }
+}
+
+/// The row of a clock name.
 pub fn name_row<C: Calls>(
     alloc: Global,
     body: &Body,
@@ -442,15 +468,6 @@ pub fn name_row<C: Calls>(
 {
     match named(body.def.definition(), m) {
         None => absent_row(alloc, body.lines),
-        Some(Named::Clock(_)) => absent_row(alloc, body.lines),
-        Some(Named::Match(k, all, _)) => match_row(alloc, body, call, *k, all.as_slice()),
-        Some(Named::Present(all, p)) => present_row(alloc, body, all.as_slice(), p.as_slice()),
-        Some(Named::Active(states, p)) => {
-            active_row(alloc, body, call, m, states.as_slice(), p.as_slice())
-        }
-        Some(Named::Tested(states, p)) => {
-            let first = m.saturating_sub(1);
-            tested_row(alloc, body, call, first, states.as_slice(), p.as_slice())
-        }
+        Some(name) => named_row(alloc, body, call, m, name),
     }
 }
