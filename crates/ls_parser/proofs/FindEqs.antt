@@ -515,8 +515,8 @@ module _ (n d : ℕ) (small : suc d ≤ 200) (E : Reader Tree) (P : Reader Pat) 
   abbrev pub Tests : Phrase (Test Plain)
   Tests = g.test Ex (IsPat d) (IsEquation d) (IsHandler d) (g.IsGuard d)
 
-  test_sure : Sure (Test Plain) n d (r.test n E P Q H) Tests Any
-  unfolding r.test
+  test_sure : Sure (Test Plain) n d (r.one_test n E P Q H) Tests Any
+  unfolding r.one_test
   test_sure = record {
     finds = λ ts m x few follow a.
         let made = of_made (identifier ⊗ (maybe (ParenLeft ▷ (IsPat d ◁ ParenRight)) ⊗ (Arrow ▷ Han))) (λ p. test_of p.0 p.1.0 p.1.1) x ts m a in
@@ -540,7 +540,7 @@ module _ (n d : ℕ) (small : suc d ≤ 200) (E : Reader Tree) (P : Reader Pat) 
   tests_found : (xs : List (Test Plain)) (ts m : List Token) → starts Bar m ≡ false → length ts ≤ n → At (separated Bar Tests) xs ts m → (h : ℕ) × (h ≤ d) × (r.tests n E P Q H ts ≡ Some (xs, h, m))
   unfolding r.tests
   tests_found xs ts m stop few a =
-      separated_found n d (starts Bar) Bar (r.test n E P Q H) Tests Any test_sure (λ x ts m a. let b = of_word Tests Bar x ts m a in starts_yes Bar ts b.0 b.1) (λ ts m is. tt) xs ts m stop tt few a
+      separated_found n d (starts Bar) Bar (r.one_test n E P Q H) Tests Any test_sure (λ x ts m a. let b = of_word Tests Bar x ts m a in starts_yes Bar ts b.0 b.1) (λ ts m is. tt) xs ts m stop tt few a
 
   otherwise_found : (o : Option (Handler Plain)) (ts m : List Token) → length ts ≤ n → At (maybe (KwElse ▷ Han)) o ts (Word KwEnd ∷ m) → (starts Bar ts ≡ false) × ((h : ℕ) × (h ≤ d) × (r.otherwise n E P Q H ts ≡ Some (o, h, Word KwEnd ∷ m)))
   unfolding r.otherwise

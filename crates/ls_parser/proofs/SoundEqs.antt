@@ -349,8 +349,8 @@ module _ (n : ℕ) (pos : 1 ≤ n) (E : Reader Tree) (P : Reader Pat) (Q : Bool 
   abbrev pub Tests : ℕ → Phrase (Test Plain)
   Tests D = g.test (Ex D) (IsPat D) (IsEquation D) (IsHandler D) (g.IsGuard D)
 
-  test_sound : Sound (Test Plain) (r.test n E P Q H) Tests
-  unfolding r.test
+  test_sound : Sound (Test Plain) (r.one_test n E P Q H) Tests
+  unfolding r.one_test
   test_sound = record {
     reads = λ ts z read.
         let a = some_of (name ts) (λ p. r.tested n E P Q H p.1 >>= λ t. word Arrow t.2 >>= λ m. r.handler n E P Q H m >>= λ x. Some (test_of p.0 t.0 x.0, max t.1 x.1, x.2)) z read in
@@ -366,7 +366,7 @@ module _ (n : ℕ) (pos : 1 ≤ n) (E : Reader Tree) (P : Reader Pat) (Q : Bool 
 
   tests_read : (ts : List Token) (z : Got (List (Test Plain))) → r.tests n E P Q H ts ≡ Some z → Reads (λ D. separated Bar (Tests D)) ts z
   unfolding r.tests
-  tests_read ts z e = sound_separated n (starts Bar) Bar (r.test n E P Q H) Tests test_sound ts z e
+  tests_read ts z e = sound_separated n (starts Bar) Bar (r.one_test n E P Q H) Tests test_sound ts z e
 
   otherwise_read : (ts : List Token) (z : Got (Option (Handler Plain))) → r.otherwise n E P Q H ts ≡ Some z → Reads (λ D. maybe (KwElse ▷ Han D)) ts z
   unfolding r.otherwise

@@ -109,11 +109,11 @@ module _ (n : ℕ) (E : Reader Tree) (P : Reader Pat) (Q : Bool → Reader (Equa
   unfoldable pub tested : Reader (Option Pat)
   tested ts = if starts ParenLeft ts then (word ParenLeft ts >>= λ m. P m >>= λ p. word ParenRight p.2 >>= λ m. Some (Some p.0, p.1, m)) else Some (None, 0, ts)
 
-  unfoldable pub test : Reader (Test Plain)
-  test ts = name ts >>= λ p. tested p.1 >>= λ t. word Arrow t.2 >>= λ m. handler m >>= λ x. Some (test_of p.0 t.0 x.0, max t.1 x.1, x.2)
+  unfoldable pub one_test : Reader (Test Plain)
+  one_test ts = name ts >>= λ p. tested p.1 >>= λ t. word Arrow t.2 >>= λ m. handler m >>= λ x. Some (test_of p.0 t.0 x.0, max t.1 x.1, x.2)
 
   unfoldable pub tests : Reader (List (Test Plain))
-  tests ts = test ts >>= λ t. collect n (starts Bar) (behind Bar test) (t.0 ∷ []) t.1 t.2
+  tests ts = one_test ts >>= λ t. collect n (starts Bar) (behind Bar one_test) (t.0 ∷ []) t.1 t.2
 
   unfoldable pub otherwise : Reader (Option (Handler Plain))
   otherwise ts = if starts KwElse ts then (word KwElse ts >>= λ m. handler m >>= λ x. Some (Some x.0, x.1, x.2)) else Some (None, 0, ts)

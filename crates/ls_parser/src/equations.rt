@@ -411,9 +411,9 @@ impl Parser<'_> {
 
     // A test of a `present`.
     #[cycle(eqs)]
-    #[tactic(auto, unfolding(crate::specs::Equations::test))]
+    #[tactic(auto, unfolding(crate::specs::Equations::one_test))]
     fn test(&self, at: usize, parts: u32) -> Read<Test<Plain>>
-        ensures { Reads self.now.tokens.now at result (spec.of_parts parts spec.test) }
+        ensures { Reads self.now.tokens.now at result (spec.of_parts parts spec.one_test) }
     {
         let (signal, at) = self.name(at)?;
         let (pat, first, at) = self.tested(at, parts)?;

@@ -36,12 +36,7 @@ pub(crate) fn exec_text<S: Source, K: Sink>(
 }
 
 /// Runs step code.
-fn run_code<S: Source, K: Sink>(
-    alloc: Global,
-    code: Code,
-    input: &mut S,
-    out: &mut K,
-) -> Status
+fn run_code<S: Source, K: Sink>(alloc: Global, code: Code, input: &mut S, out: &mut K) -> Status
     ensures runs { is_about_file result ≡ true → Runs (node_on code (first_slots code)) most_lines (S.left input.old) (S.left input.new) result (K.written out.old) (K.written out.new) }
     ensures inner { IsInner result (S.count input.old) (S.count input.new) (K.count out.old) (K.count out.new) ((input.new ≡ input.old) × (out.new ≡ out.old)) }
 {

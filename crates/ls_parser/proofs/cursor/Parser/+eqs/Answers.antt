@@ -26,10 +26,10 @@ arms-turns-preserved t c =
 pub tests-turns-preserved : goal.tests-turns-preserved
 tests-turns-preserved t c =
     let top : c.max-highest.result ≡ max c.turns.highest c.in_ok-item.height = search rules in
-    collect_turn (starts Bar) (behind Bar (spec.of_parts c.args.parts spec.test (length c.args.self.now.tokens.now))) (length c.args.self.now.tokens.now) c.turns.turn c.turns.items c.push-in-turns.new.self
+    collect_turn (starts Bar) (behind Bar (spec.of_parts c.args.parts spec.one_test (length c.args.self.now.tokens.now))) (length c.args.self.now.tokens.now) c.turns.turn c.turns.items c.push-in-turns.new.self
     c.turns.highest c.in_ok-item.height c.max-highest.result (rest c.args.self.now.tokens.now c.turns.at) (rest c.args.self.now.tokens.now c.in_ok-item.behind) c.in_ok-item.item _
     c.turns-test.true (sym c.is.ensures ∙ c.if-not-is.false)
-    (ap (λ o. o >>= (spec.of_parts c.args.parts spec.test (length c.args.self.now.tokens.now))) c.in_ok-at.ensures ∙ c.in_ok-item.ensures)
+    (ap (λ o. o >>= (spec.of_parts c.args.parts spec.one_test (length c.args.self.now.tokens.now))) c.in_ok-at.ensures ∙ c.in_ok-item.ensures)
     c.in_ok-push-2.ensures.ok top c.turns.invariant
 
 pub states-turns-preserved : goal.states-turns-preserved

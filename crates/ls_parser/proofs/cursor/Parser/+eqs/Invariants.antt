@@ -76,8 +76,8 @@ invariant-arms-turns l =
 
 abbrev pub invariant-tests-turns : goal.invariant-tests-turns
 invariant-tests-turns l =
-    collect (length l.self.tokens.now - l.turn) (starts Bar) (behind Bar (spec.of_parts l.parts spec.test (length l.self.tokens.now))) l.items l.highest (rest l.self.tokens.now l.at)
-    ≡ collect (length l.self.tokens.now) (starts Bar) (behind Bar (spec.of_parts l.parts spec.test (length l.self.tokens.now))) l.initial.items l.initial.highest (rest l.self.tokens.now l.initial.at)
+    collect (length l.self.tokens.now - l.turn) (starts Bar) (behind Bar (spec.of_parts l.parts spec.one_test (length l.self.tokens.now))) l.items l.highest (rest l.self.tokens.now l.at)
+    ≡ collect (length l.self.tokens.now) (starts Bar) (behind Bar (spec.of_parts l.parts spec.one_test (length l.self.tokens.now))) l.initial.items l.initial.highest (rest l.self.tokens.now l.initial.at)
 
 abbrev pub invariant-states-turns : goal.invariant-states-turns
 invariant-states-turns l =
