@@ -51,7 +51,7 @@ fn case_number(case: Case, scope: &Scope) -> u32 {
 }
 
 /// A clock without its outermost sampling.
-fn outer(ck: &ClockTerm, alloc: Global) -> Result<ClockTerm, NoMemory> {
+fn outer(alloc: Global, ck: &ClockTerm) -> Result<ClockTerm, NoMemory> {
     match ck {
         ClockTerm::On(inner, _, _) => inner.get().copy(alloc),
         _ => ck.copy(alloc),
@@ -76,7 +76,7 @@ fn arrow(alloc: Global) -> Result<TypeTerm, NoMemory> {
 }
 
 /// The type of what is no function; what is under a signal is not asked.
-fn data(signal: bool, alloc: Global) -> Result<TypeTerm, NoMemory> {
+fn data(alloc: Global, signal: bool) -> Result<TypeTerm, NoMemory> {
     if signal {
         return Ok(TypeTerm::Signal(Boxed::new(alloc, TypeTerm::Int)?));
     }
@@ -84,7 +84,7 @@ fn data(signal: bool, alloc: Global) -> Result<TypeTerm, NoMemory> {
 }
 
 /// The clock of this number: 0 is the clock of the place, and the others are variables.
-fn numbered(k: u32, ck: &ClockTerm, alloc: Global) -> Result<ClockTerm, NoMemory> {
+fn numbered(alloc: Global, k: u32, ck: &ClockTerm) -> Result<ClockTerm, NoMemory> {
     if k == 0 {
         return ck.copy(alloc);
     }
@@ -94,19 +94,19 @@ fn numbered(k: u32, ck: &ClockTerm, alloc: Global) -> Result<ClockTerm, NoMemory
 /// The clock of a name at a place with this clock.
 fn told_clock(told: Told, ck: &ClockTerm, arms: &[(u32, u32)], scope: &Scope) -> Result<ClockTerm, NoMemory> {
     match told {
-        Told::Here | Told::Signal => ck.copy(scope.alloc),
+        Told::Here | Told::Signal | Told::Restarts(_) => ck.copy(scope.alloc),
         Told::Free(k) => Ok(ClockTerm::Var(k)),
         Told::Sampled(c, case) => match scope.names.find(c) {
-            Some(c) => sampled(ck, scope.clock_name(c, arms), case, scope.alloc),
+            Some(c) => sampled(scope.alloc, ck, scope.clock_name(c, arms), case),
             None => ck.copy(scope.alloc),
         },
         Told::Pointwise => Ok(ClockTerm::Pointwise),
         Told::Node(params, result) => {
             let mut done = List::new(scope.alloc);
             for k in params {
-                done.push(numbered(*k, ck, scope.alloc)?)?;
+                done.push(numbered(scope.alloc, *k, ck)?)?;
             }
-            let result = Boxed::new(scope.alloc, numbered(result, ck, scope.alloc)?)?;
+            let result = Boxed::new(scope.alloc, numbered(scope.alloc, result, ck)?)?;
             Ok(ClockTerm::Arrow(done, result))
         }
     }
@@ -143,9 +143,9 @@ fn note(
     let (ty, ck) = match form {
         Form::Var(x) => match passed(*x, bound, scope) {
             Some(told) => (arrow(alloc)?, told_clock(told, ck, arms, scope)?),
-            None => (data(signal, alloc)?, ck.copy(alloc)?),
+            None => (data(alloc, signal)?, ck.copy(alloc)?),
         },
-        _ => (data(signal, alloc)?, ck.copy(alloc)?),
+        _ => (data(alloc, signal)?, ck.copy(alloc)?),
     };
     Ok(Note { bound, ty, ck, restarts: List::new(alloc) })
 }
@@ -181,7 +181,7 @@ fn arguments(
     let mut k = 0;
     for e in all {
         let inner = match clocks.get(k) {
-            Some(number) => numbered(*number, ck, scope.alloc)?,
+            Some(number) => numbered(scope.alloc, *number, ck)?,
             None => ck.copy(scope.alloc)?,
         };
         done.push(expression(e, &inner, arms, scope)?)?;
@@ -201,7 +201,7 @@ fn branches(
 ) -> Result<List<(Case, Expr<Note>)>, NoMemory> {
     let mut done = List::new(scope.alloc);
     for choice in all {
-        let inner = sampled(ck, m, case_number(choice.0, scope), scope.alloc)?;
+        let inner = sampled(scope.alloc, ck, m, case_number(choice.0, scope))?;
         done.push((choice.0, expression(&choice.1, &inner, arms, scope)?))?;
     }
     Ok(done)
@@ -272,7 +272,7 @@ fn annotated(
             Ok(Form::Init(first, expression(b, ck, arms, scope)?))
         }
         Form::When(e, name, case) => {
-            let fast = outer(ck, scope.alloc)?;
+            let fast = outer(scope.alloc, ck)?;
             Ok(Form::When(expression(e, &fast, arms, scope)?, *name, *case))
         }
         Form::Merge(name, choices) => {
@@ -308,10 +308,26 @@ fn told_of<'a>(pat: &Pat, scope: &Scope<'a>) -> Told<'a> {
     }
 }
 
+/// The numbers of the variables at which a right side restarts of which this is told.
+fn restarting(told: Told, arms: &[(u32, u32)], scope: &Scope) -> Result<List<u32>, NoMemory> {
+    let mut done = List::new(scope.alloc);
+    if let Told::Restarts(r) = told {
+        if let Some(r) = scope.names.find(r) {
+            if let Binder::Var(k) = scope.binder(r, arms) {
+                done.push(k)?;
+            }
+        }
+    }
+    Ok(done)
+}
+
 /// The right side of an equation of which this is told.
 fn right(e: &Expr<Plain>, told: Told, at: &At, scope: &Scope) -> Result<Expr<Note>, NoMemory> {
-    let ck = told_clock(told, &at.ck, at.arms.as_slice(), scope)?;
-    whole(e, matches!(told, Told::Signal), &ck, at.arms.as_slice(), scope)
+    let arms = at.arms.as_slice();
+    let ck = told_clock(told, &at.ck, arms, scope)?;
+    let mut done = whole(e, matches!(told, Told::Signal), &ck, arms, scope)?;
+    done.note.restarts = restarting(told, arms, scope)?;
+    Ok(done)
 }
 
 fn plain(pat: &Pat, e: &Expr<Plain>, at: &At, scope: &Scope) -> Result<Equation<Note>, NoMemory> {
@@ -454,7 +470,7 @@ fn tested(all: &[Test<Plain>], at: &At, scope: &Scope) -> Result<At, NoMemory> {
     let mut k: usize = 0;
     for arm in at.arms.as_slice() {
         if k >= outer {
-            ck = sampled(&ck, arm.0, arm.1, scope.alloc)?;
+            ck = sampled(scope.alloc, &ck, arm.0, arm.1)?;
         }
         k = k.saturating_add(1);
     }
@@ -473,7 +489,7 @@ fn handler(
     scope: &Scope,
     next: &mut u32,
 ) -> Result<Handler<Note>, NoMemory> {
-    let inside = at.within(m, j, scope.alloc)?;
+    let inside = at.within(scope.alloc, m, j)?;
     let locals = equations(all.locals.as_slice(), &inside, scope, next)?;
     let eqs = equations(all.eqs.as_slice(), &inside, scope, next)?;
     Ok(Handler { locals, eqs })
@@ -493,9 +509,9 @@ fn states(
     for state in all {
         let j = done.len() as u32;
         let inside = handler(&state.handler, m, j, at, scope, next)?;
-        let tested = at.within(m.saturating_add(1), j, scope.alloc)?;
+        let tested = at.within(scope.alloc, m.saturating_add(1), j)?;
         let strong = guards(state.strong.as_slice(), &tested, scope, next)?;
-        let active = at.within(m, j, scope.alloc)?;
+        let active = at.within(scope.alloc, m, j)?;
         let weak = guards(state.weak.as_slice(), &active, scope, next)?;
         done.push(State {
             name: state.name,
@@ -542,7 +558,7 @@ fn body(all: &BodyOf<Plain>, scope: &Scope) -> Result<BodyOf<Note>, NoMemory> {
 fn parameter_note(pat: &Pat, scope: &Scope) -> Result<Note, NoMemory> {
     let alloc = scope.alloc;
     let told = told_of(pat, scope);
-    let ty = if is_function(told) { arrow(alloc)? } else { data(false, alloc)? };
+    let ty = if is_function(told) { arrow(alloc)? } else { data(alloc, false)? };
     Ok(Note {
         bound: Binder::Nothing,
         ty,
@@ -560,7 +576,7 @@ fn parameter_notes(params: &[Pat], scope: &Scope) -> Result<List<Note>, NoMemory
 }
 
 /// An item of a file.
-fn definition(def: &Def, defs: &[Def], names: &Names, hints: &[Hint], alloc: Global) -> Result<DefOf<Note>, NoMemory> {
+fn definition(alloc: Global, def: &Def, defs: &[Def], names: &Names, hints: &[Hint]) -> Result<DefOf<Note>, NoMemory> {
     match def {
         DefOf::Cases { line, name, cases } => Ok(DefOf::Cases {
             line: *line,
@@ -594,14 +610,14 @@ fn definition(def: &Def, defs: &[Def], names: &Names, hints: &[Hint], alloc: Glo
 
 /// The definitions of a file with their notes.
 pub fn annotated_file(
+    alloc: Global,
     defs: &[Def],
     names: &Names,
     hints: &[Hint],
-    alloc: Global,
 ) -> Result<List<DefOf<Note>>, NoMemory> {
     let mut done = List::new(alloc);
     for def in defs {
-        done.push(definition(def, defs, names, hints, alloc)?)?;
+        done.push(definition(alloc, def, defs, names, hints)?)?;
     }
     Ok(done)
 }

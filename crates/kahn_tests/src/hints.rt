@@ -11,6 +11,9 @@ pub enum Told<'a> {
     Free(u32),
     /// It is on the clock of its place, sampled on this case of the condition of this name.
     Sampled(&'a str, u32),
+    /// It is on the clock of its place, and its right side restarts also where the variable of this
+    /// name is true.
+    Restarts(&'a str),
     /// It stands for a pointwise function.
     Pointwise,
     /// It stands for a node: the clocks of its parameters and of its result, where 0 is the clock

@@ -9,7 +9,7 @@ use std::test::Fail;
 fn a_running_sum(rt: HostRuntime) -> Result<(), Fail> {
     let alloc = rt.alloc();
     let sum = node_of("sum", "let node sum x = s where rec s = x + (0 fby s)");
-    assert_eq!(rt; run(&sum, &["1 2 3"], alloc)?.as_str(), "1 3 6");
+    assert_eq!(rt; run(alloc, &sum, &["1 2 3"])?.as_str(), "1 3 6");
     Ok(())
 }
 
@@ -20,7 +20,7 @@ fn a_merge(rt: HostRuntime) -> Result<(), Fail> {
         "keep",
         "let node keep x c = merge c (x when c) (0 whenot c)",
     );
-    assert_eq!(rt; run(&keep, &["5 6", "true false"], alloc)?.as_str(), "5 0");
+    assert_eq!(rt; run(alloc, &keep, &["5 6", "true false"])?.as_str(), "5 0");
     Ok(())
 }
 
@@ -28,7 +28,7 @@ fn a_merge(rt: HostRuntime) -> Result<(), Fail> {
 fn a_division(rt: HostRuntime) -> Result<(), Fail> {
     let alloc = rt.alloc();
     let ratio = node_of("d", "let node d x = 10 / x");
-    assert_eq!(rt; run(&ratio, &["5 0 1"], alloc)?.as_str(), "2 ! 10");
+    assert_eq!(rt; run(alloc, &ratio, &["5 0 1"])?.as_str(), "2 ! 10");
     Ok(())
 }
 
@@ -47,7 +47,7 @@ fn a_match_in_a_reset(rt: HostRuntime) -> Result<(), Fail> {
     let alloc = rt.alloc();
     let args = ["false false true false", "true true false true"];
     assert_eq!(rt;
-        run(&node_of("r", RESET), &args, alloc)?.as_str(),
+        run(alloc, &node_of("r", RESET), &args)?.as_str(),
         "0 1 -1 0"
     );
     Ok(())
@@ -65,7 +65,7 @@ fn an_automaton_with_weak_guards(rt: HostRuntime) -> Result<(), Fail> {
     let alloc = rt.alloc();
     let args = ["() () () () () ()"];
     assert_eq!(rt;
-        run(&node_of("updown", UP_AND_DOWN), &args, alloc)?.as_str(),
+        run(alloc, &node_of("updown", UP_AND_DOWN), &args)?.as_str(),
         "1 2 1 0 1 2"
     );
     Ok(())
@@ -83,7 +83,7 @@ fn an_automaton_with_strong_guards(rt: HostRuntime) -> Result<(), Fail> {
     let alloc = rt.alloc();
     let args = ["true true false"];
     assert_eq!(rt;
-        run(&node_of("sw", SWITCH), &args, alloc)?.as_str(),
+        run(alloc, &node_of("sw", SWITCH), &args)?.as_str(),
         "1 0 0"
     );
     Ok(())
@@ -108,7 +108,7 @@ fn states_entered_anew(rt: HostRuntime) -> Result<(), Fail> {
     let alloc = rt.alloc();
     let args = ["false true false true false"];
     assert_eq!(rt;
-        run(&node_of("t", BY_RESET), &args, alloc)?.as_str(),
+        run(alloc, &node_of("t", BY_RESET), &args)?.as_str(),
         "1 2 10 11 1"
     );
     Ok(())
@@ -119,7 +119,7 @@ fn states_entered_with_their_memories(rt: HostRuntime) -> Result<(), Fail> {
     let alloc = rt.alloc();
     let args = ["false true false true false"];
     assert_eq!(rt;
-        run(&node_of("t", BY_HISTORY), &args, alloc)?.as_str(),
+        run(alloc, &node_of("t", BY_HISTORY), &args)?.as_str(),
         "1 2 10 11 3"
     );
     Ok(())
@@ -145,7 +145,7 @@ fn a_pointwise_function_as_an_argument(rt: HostRuntime) -> Result<(), Fail> {
         hints: &hints,
         ..node_of("total", ITERATED)
     };
-    assert_eq!(rt; run(&total, &["3 4"], alloc)?.as_str(), "3 7");
+    assert_eq!(rt; run(alloc, &total, &["3 4"])?.as_str(), "3 7");
     Ok(())
 }
 
@@ -157,7 +157,7 @@ fn each_call_has_its_own_memory(rt: HostRuntime) -> Result<(), Fail> {
         hints: &hints,
         ..node_of("two", ITERATED)
     };
-    assert_eq!(rt; run(&two, &["3 4"], alloc)?.as_str(), "(3,4) (7,9)");
+    assert_eq!(rt; run(alloc, &two, &["3 4"])?.as_str(), "(3,4) (7,9)");
     Ok(())
 }
 
@@ -173,7 +173,7 @@ fn a_division_on_a_slow_clock(rt: HostRuntime) -> Result<(), Fail> {
         )
     };
     let args = ["7 8 9", "false false true"];
-    assert_eq!(rt; run(&slow, &args, alloc)?.as_str(), "7 8 !");
+    assert_eq!(rt; run(alloc, &slow, &args)?.as_str(), "7 8 !");
     Ok(())
 }
 
@@ -181,7 +181,7 @@ fn a_division_on_a_slow_clock(rt: HostRuntime) -> Result<(), Fail> {
 fn the_value_of_a_signal(rt: HostRuntime) -> Result<(), Fail> {
     let alloc = rt.alloc();
     let text = "let node sg s = o where rec present s(v) -> do o = v done else do o = 0 done end";
-    assert_eq!(rt; run(&node_of("sg", text), &["7 ."], alloc)?.as_str(), "7 0");
+    assert_eq!(rt; run(alloc, &node_of("sg", text), &["7 ."])?.as_str(), "7 0");
     Ok(())
 }
 
@@ -198,7 +198,7 @@ let node e () = s where
 fn a_signal_that_is_emitted(rt: HostRuntime) -> Result<(), Fail> {
     let alloc = rt.alloc();
     assert_eq!(rt;
-        run(&node_of("e", EMITTER), &["() () ()"], alloc)?.as_str(),
+        run(alloc, &node_of("e", EMITTER), &["() () ()"])?.as_str(),
         ". 1 ."
     );
     Ok(())
@@ -229,7 +229,7 @@ fn a_chronometer(rt: HostRuntime) -> Result<(), Fail> {
     let alloc = rt.alloc();
     let args = [". 's' . 'l' . 'l' 's' . 'l' 'x'", "1 1 1 1 1 1 1 1 1 1"];
     assert_eq!(rt;
-        run(&node_of("chrono", CHRONOMETER), &args, alloc)?.as_str(),
+        run(alloc, &node_of("chrono", CHRONOMETER), &args)?.as_str(),
         CHRONOMETER_ROW
     );
     Ok(())
@@ -260,7 +260,34 @@ fn a_function_with_a_clock_of_its_own_in_an_arm(rt: HostRuntime) -> Result<(), F
         ..node_of("top", CUT)
     };
     let args = ["false false true", "5 5 5"];
-    assert_eq!(rt; run(&top, &args, alloc)?.as_str(), "0 0 !");
+    assert_eq!(rt; run(alloc, &top, &args)?.as_str(), "0 0 !");
+    Ok(())
+}
+
+const CALLED_IN_BOTH_ARMS: &str = "
+let node h x y = x where rec z = 10 / y
+let node g f x = run f x 0
+let node two c x = o where rec match c with
+  | true -> do o = g h x done
+  | false -> do o = 1 + g h x done
+  end
+";
+
+#[test]
+fn a_function_in_each_arm(rt: HostRuntime) -> Result<(), Fail> {
+    let alloc = rt.alloc();
+    let hints = [
+        hint("h", "y", Told::Free(1)),
+        hint("h", "z", Told::Free(1)),
+        hint("g", "f", Told::Node(&[0, 1], 0)),
+        hint("two", "h", Told::Node(&[0, 1], 0)),
+    ];
+    let two = Program {
+        hints: &hints,
+        ..node_of("two", CALLED_IN_BOTH_ARMS)
+    };
+    let args = ["true false", "5 5"];
+    assert_eq!(rt; run(alloc, &two, &args)?.as_str(), "! !");
     Ok(())
 }
 
@@ -289,8 +316,8 @@ fn a_present_on_the_clock_of_its_signal(rt: HostRuntime) -> Result<(), Fail> {
         hints: &hints,
         ..node_of("top", TESTED_IN_AN_ARM)
     };
-    assert_eq!(rt; run(&top, &["true false"], alloc)?.as_str(), "! !");
-    assert_eq!(rt; run(&top, &["false true"], alloc)?.as_str(), "! !");
+    assert_eq!(rt; run(alloc, &top, &["true false"])?.as_str(), "! !");
+    assert_eq!(rt; run(alloc, &top, &["false true"])?.as_str(), "! !");
     Ok(())
 }
 
@@ -313,7 +340,7 @@ fn an_automaton_on_the_clock_of_a_signal(rt: HostRuntime) -> Result<(), Fail> {
         ..node_of("top", TESTED_OUTSIDE)
     };
     let args = ["false false true false"];
-    assert_eq!(rt; run(&top, &args, alloc)?.as_str(), "1 1 ! 1");
+    assert_eq!(rt; run(alloc, &top, &args)?.as_str(), "1 1 ! 1");
     Ok(())
 }
 
@@ -338,7 +365,7 @@ fn two_functions_as_arguments(rt: HostRuntime) -> Result<(), Fail> {
         hints: &hints,
         ..node_of("use", TWICE)
     };
-    assert_eq!(rt; run(&twice, &["3 4"], alloc)?.as_str(), "6 11");
+    assert_eq!(rt; run(alloc, &twice, &["3 4"])?.as_str(), "6 11");
     Ok(())
 }
 
@@ -348,7 +375,7 @@ fn a_call_that_begins_anew(rt: HostRuntime) -> Result<(), Fail> {
     let text =
         "let node sum x = s where rec s = x + (0 fby s)\nlet node z x c = (sum x every c)";
     let args = ["1 2 3 4", "false false true false"];
-    assert_eq!(rt; run(&node_of("z", text), &args, alloc)?.as_str(), "1 3 3 7");
+    assert_eq!(rt; run(alloc, &node_of("z", text), &args)?.as_str(), "1 3 3 7");
     Ok(())
 }
 
@@ -361,7 +388,7 @@ let node h x c = o where rec last o = 0
 fn a_shared_name_keeps_its_value(rt: HostRuntime) -> Result<(), Fail> {
     let alloc = rt.alloc();
     let args = ["5 6 7", "true false true"];
-    assert_eq!(rt; run(&node_of("h", KEPT), &args, alloc)?.as_str(), "5 5 7");
+    assert_eq!(rt; run(alloc, &node_of("h", KEPT), &args)?.as_str(), "5 5 7");
     Ok(())
 }
 
@@ -370,7 +397,7 @@ fn an_initial_equation_in_a_reset(rt: HostRuntime) -> Result<(), Fail> {
     let alloc = rt.alloc();
     let text = "let node g x c = o where rec reset last o = 0 and o = last o + x every c";
     let args = ["1 2 3 4", "false false true false"];
-    assert_eq!(rt; run(&node_of("g", text), &args, alloc)?.as_str(), "1 3 3 7");
+    assert_eq!(rt; run(alloc, &node_of("g", text), &args)?.as_str(), "1 3 3 7");
     Ok(())
 }
 
@@ -387,7 +414,7 @@ fn strong_guards_go_before_weak_ones(rt: HostRuntime) -> Result<(), Fail> {
     let alloc = rt.alloc();
     let args = ["false false true false", "true false true false"];
     assert_eq!(rt;
-        run(&node_of("w", WEAK_AND_STRONG), &args, alloc)?.as_str(),
+        run(alloc, &node_of("w", WEAK_AND_STRONG), &args)?.as_str(),
         "0 2 1 0"
     );
     Ok(())
@@ -406,7 +433,7 @@ fn the_first_signal_that_is_emitted(rt: HostRuntime) -> Result<(), Fail> {
     let alloc = rt.alloc();
     let args = ["7 . . 5", "8 8 . ."];
     assert_eq!(rt;
-        run(&node_of("a", FIRST_OF_TWO), &args, alloc)?.as_str(),
+        run(alloc, &node_of("a", FIRST_OF_TWO), &args)?.as_str(),
         "7 9 0 5"
     );
     Ok(())
@@ -416,9 +443,9 @@ fn the_first_signal_that_is_emitted(rt: HostRuntime) -> Result<(), Fail> {
 fn a_first_instant(rt: HostRuntime) -> Result<(), Fail> {
     let alloc = rt.alloc();
     let arrow = node_of("i", "let node i x = 0 -> x + 1");
-    assert_eq!(rt; run(&arrow, &["5 6 7"], alloc)?.as_str(), "0 7 8");
+    assert_eq!(rt; run(alloc, &arrow, &["5 6 7"])?.as_str(), "0 7 8");
     let pre = node_of("p", "let node p x = 0 -> pre x");
-    assert_eq!(rt; run(&pre, &["5 6 7"], alloc)?.as_str(), "0 5 6");
+    assert_eq!(rt; run(alloc, &pre, &["5 6 7"])?.as_str(), "0 5 6");
     Ok(())
 }
 
@@ -426,7 +453,7 @@ fn a_first_instant(rt: HostRuntime) -> Result<(), Fail> {
 fn whether_a_signal_is_emitted(rt: HostRuntime) -> Result<(), Fail> {
     let alloc = rt.alloc();
     let asked = node_of("q", "let node q s = if ?s then 1 else 0");
-    assert_eq!(rt; run(&asked, &["7 . 0"], alloc)?.as_str(), "1 0 1");
+    assert_eq!(rt; run(alloc, &asked, &["7 . 0"])?.as_str(), "1 0 1");
     Ok(())
 }
 
@@ -446,7 +473,7 @@ let node got c = o where rec t = pulse c
         hints: &hints,
         ..node_of("got", text)
     };
-    assert_eq!(rt; run(&got, &["true false true"], alloc)?.as_str(), "3 0 3");
+    assert_eq!(rt; run(alloc, &got, &["true false true"])?.as_str(), "3 0 3");
     Ok(())
 }
 
@@ -455,7 +482,7 @@ fn a_parameter_that_is_a_tuple(rt: HostRuntime) -> Result<(), Fail> {
     let alloc = rt.alloc();
     let parts = node_of("t", "let node t (a, b) c = (b, a + c)");
     let args = ["(1,2) (3,4)", "10 20"];
-    assert_eq!(rt; run(&parts, &args, alloc)?.as_str(), "(2,11) (4,23)");
+    assert_eq!(rt; run(alloc, &parts, &args)?.as_str(), "(2,11) (4,23)");
     Ok(())
 }
 
@@ -475,7 +502,7 @@ fn a_block_in_a_block(rt: HostRuntime) -> Result<(), Fail> {
     let alloc = rt.alloc();
     let args = ["true true true false true", "true true false true true"];
     assert_eq!(rt;
-        run(&node_of("n", NESTED), &args, alloc)?.as_str(),
+        run(alloc, &node_of("n", NESTED), &args)?.as_str(),
         "1 2 10 0 3"
     );
     Ok(())
@@ -493,7 +520,7 @@ let node d x = o where rec automaton
 fn a_division_in_a_guard(rt: HostRuntime) -> Result<(), Fail> {
     let alloc = rt.alloc();
     assert_eq!(rt;
-        run(&node_of("d", DIVIDING_GUARD), &["5 2 0 1 0"], alloc)?.as_str(),
+        run(alloc, &node_of("d", DIVIDING_GUARD), &["5 2 0 1 0"])?.as_str(),
         "1 1 2 2 !"
     );
     Ok(())
@@ -512,7 +539,7 @@ let node m c = (o, p) where rec match pre c with
 fn a_scrutinee_without_a_value(rt: HostRuntime) -> Result<(), Fail> {
     let alloc = rt.alloc();
     assert_eq!(rt;
-        run(&node_of("m", NO_SCRUTINEE), &["true true false true"], alloc)?.as_str(),
+        run(alloc, &node_of("m", NO_SCRUTINEE), &["true true false true"])?.as_str(),
         "nil (1,0) (1,1) (2,5)"
     );
     Ok(())
@@ -533,7 +560,7 @@ fn an_automaton_with_a_delay_on_a_slow_clock(rt: HostRuntime) -> Result<(), Fail
     let alloc = rt.alloc();
     let args = ["true true false true true true false true"];
     assert_eq!(rt;
-        run(&node_of("s", SLOW_AUTOMATON), &args, alloc)?.as_str(),
+        run(alloc, &node_of("s", SLOW_AUTOMATON), &args)?.as_str(),
         "0 1 -1 10 11 2 -1 3"
     );
     Ok(())
@@ -554,7 +581,7 @@ fn a_clock_of_three_cases(rt: HostRuntime) -> Result<(), Fail> {
         ..node_of("e", COLOURS)
     };
     let args = ["#1 #0 #1 #2 #1", "1 2 3 4 5"];
-    assert_eq!(rt; run(&colours, &args, alloc)?.as_str(), "10 0 11 4 12");
+    assert_eq!(rt; run(alloc, &colours, &args)?.as_str(), "10 0 11 4 12");
     Ok(())
 }
 
@@ -570,7 +597,7 @@ let node r c = o where rec match c with
 fn a_match_on_a_constructor(rt: HostRuntime) -> Result<(), Fail> {
     let alloc = rt.alloc();
     assert_eq!(rt;
-        run(&node_of("r", RED_OR_NOT), &["#0 #1 #2 #0"], alloc)?.as_str(),
+        run(alloc, &node_of("r", RED_OR_NOT), &["#0 #1 #2 #0"])?.as_str(),
         "0 100 101 1"
     );
     Ok(())
@@ -593,7 +620,7 @@ fn a_present_on_a_slow_signal(rt: HostRuntime) -> Result<(), Fail> {
         hints: &hints,
         ..node_of("f", SLOW_PRESENT)
     };
-    assert_eq!(rt; run(&slow, &["false true false"], alloc)?.as_str(), "1 ! 1");
+    assert_eq!(rt; run(alloc, &slow, &["false true false"])?.as_str(), "1 ! 1");
     Ok(())
 }
 
@@ -611,7 +638,7 @@ fn a_present_in_an_arm(rt: HostRuntime) -> Result<(), Fail> {
     let alloc = rt.alloc();
     let args = ["true true false false", "true false true false"];
     assert_eq!(rt;
-        run(&node_of("f", PRESENT_IN_AN_ARM), &args, alloc)?.as_str(),
+        run(alloc, &node_of("f", PRESENT_IN_AN_ARM), &args)?.as_str(),
         "! 0 5 5"
     );
     Ok(())
@@ -630,7 +657,7 @@ fn the_first_of_three_signals(rt: HostRuntime) -> Result<(), Fail> {
     let alloc = rt.alloc();
     let args = ["true false true false", "true true false false"];
     assert_eq!(rt;
-        run(&node_of("f", EMITTED_IN_BLOCKS), &args, alloc)?.as_str(),
+        run(alloc, &node_of("f", EMITTED_IN_BLOCKS), &args)?.as_str(),
         "1 2 1 0"
     );
     Ok(())
@@ -646,7 +673,7 @@ let node g c x = merge c (f s) (0 whenot c) where rec emit s = x when c
 fn a_signal_given_to_a_node(rt: HostRuntime) -> Result<(), Fail> {
     let alloc = rt.alloc();
     assert_eq!(rt;
-        run(&node_of("f", ON_A_SLOW_CLOCK), &["5 . 0 ."], alloc)?.as_str(),
+        run(alloc, &node_of("f", ON_A_SLOW_CLOCK), &["5 . 0 ."])?.as_str(),
         "2 7 ! 7"
     );
     let hints = [hint("g", "s", Told::Sampled("c", 1))];
@@ -655,7 +682,7 @@ fn a_signal_given_to_a_node(rt: HostRuntime) -> Result<(), Fail> {
         ..node_of("g", ON_A_SLOW_CLOCK)
     };
     let args = ["true false true", "5 0 10"];
-    assert_eq!(rt; run(&slow, &args, alloc)?.as_str(), "2 0 1");
+    assert_eq!(rt; run(alloc, &slow, &args)?.as_str(), "2 0 1");
     Ok(())
 }
 
@@ -678,7 +705,7 @@ fn an_automaton_around_one_that_tests_a_signal(rt: HostRuntime) -> Result<(), Fa
         hints: &hints,
         ..node_of("f", NESTED_AUTOMATA)
     };
-    assert_eq!(rt; run(&nested, &["false true false"], alloc)?.as_str(), "1 ! 1");
+    assert_eq!(rt; run(alloc, &nested, &["false true false"])?.as_str(), "1 ! 1");
     Ok(())
 }
 
@@ -696,7 +723,7 @@ fn an_automaton_that_tests_a_signal_of_its_own(rt: HostRuntime) -> Result<(), Fa
         hints: &hints,
         ..node_of("f", SIGNAL_FROM_INSIDE)
     };
-    assert_eq!(rt; run(&inside, &["() ()"], alloc)?.as_str(), "! !");
+    assert_eq!(rt; run(alloc, &inside, &["() ()"])?.as_str(), "! !");
     Ok(())
 }
 
@@ -714,7 +741,7 @@ fn a_signal_of_an_arm(rt: HostRuntime) -> Result<(), Fail> {
     let alloc = rt.alloc();
     let args = ["true true false", "true false true"];
     assert_eq!(rt;
-        run(&node_of("f", SIGNAL_OF_AN_ARM), &args, alloc)?.as_str(),
+        run(alloc, &node_of("f", SIGNAL_OF_AN_ARM), &args)?.as_str(),
         "1 0 5"
     );
     Ok(())
@@ -728,8 +755,21 @@ let node f a = q where rec match a with | true -> do emit s = 1 done | false -> 
   and q = ?s
 ";
     assert_eq!(rt;
-        run(&node_of("f", text), &["true false"], alloc)?.as_str(),
+        run(alloc, &node_of("f", text), &["true false"])?.as_str(),
         "true false"
     );
+    Ok(())
+}
+
+/// An expression whose note lists a variable restarts where the variable is true.
+#[test]
+fn an_expression_that_restarts_by_a_variable(rt: HostRuntime) -> Result<(), Fail> {
+    let alloc = rt.alloc();
+    let count = node_of("f", "let node f c = o where rec o = 0 fby (o + 1) and r = c");
+    let args = ["false false true false"];
+    assert_eq!(rt; run(alloc, &count, &args)?.as_str(), "0 1 2 3");
+    let hints = [hint("f", "o", Told::Restarts("r"))];
+    let anew = Program { hints: &hints, ..count };
+    assert_eq!(rt; run(alloc, &anew, &args)?.as_str(), "0 1 0 1");
     Ok(())
 }

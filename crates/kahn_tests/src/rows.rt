@@ -26,7 +26,7 @@ fn leaf(word: &[u8]) -> Leaf {
 }
 
 /// The value of a word: leaves, or a tuple of leaves between parentheses.
-fn value(word: &str, alloc: Global) -> Result<Value, NoMemory> {
+fn value(alloc: Global, word: &str) -> Result<Value, NoMemory> {
     if word == "()" || !word.starts_with('(') {
         return Ok(Value::Leaf(leaf(word.as_bytes())));
     }
@@ -40,18 +40,18 @@ fn value(word: &str, alloc: Global) -> Result<Value, NoMemory> {
 }
 
 /// The cell of a word: `.` is a signal that is not emitted.
-fn cell(word: &str, alloc: Global) -> Result<Cell, NoMemory> {
+fn cell(alloc: Global, word: &str) -> Result<Cell, NoMemory> {
     if word == "." {
         return Ok(Cell::Silent);
     }
-    Ok(Cell::Present(value(word, alloc)?))
+    Ok(Cell::Present(value(alloc, word)?))
 }
 
 /// The row of some words.
-pub fn row(text: &str, alloc: Global) -> Result<List<Option<Cell>>, NoMemory> {
+pub fn row(alloc: Global, text: &str) -> Result<List<Option<Cell>>, NoMemory> {
     let mut done = List::new(alloc);
     for word in text.split_whitespace() {
-        done.push(Some(cell(word, alloc)?))?;
+        done.push(Some(cell(alloc, word)?))?;
     }
     Ok(done)
 }
@@ -120,7 +120,7 @@ fn write_line(c: &Option<Cell>, alarm: Option<bool>, out: &mut String) -> Result
 }
 
 /// The words of an answer, with blanks between them.
-pub fn words(answer: &Answer, alloc: Global) -> Result<String, NoMemory> {
+pub fn words(alloc: Global, answer: &Answer) -> Result<String, NoMemory> {
     let mut out = String::new(alloc);
     let mut first = true;
     for (c, alarm) in answer.row.as_slice().iter().zip(answer.alarms.as_slice()) {

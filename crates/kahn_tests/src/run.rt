@@ -29,7 +29,7 @@ pub fn node_of<'a>(node: &'a str, text: &'a str) -> Program<'a> {
     }
 }
 
-fn tokens(text: &[u8], alloc: Global) -> Result<Option<Tokens>, NoMemory> {
+fn tokens(alloc: Global, text: &[u8]) -> Result<Option<Tokens>, NoMemory> {
     if text.len() >= 4_294_967_295 {
         return Ok(None);
     }
@@ -41,8 +41,8 @@ fn tokens(text: &[u8], alloc: Global) -> Result<Option<Tokens>, NoMemory> {
 }
 
 /// The tree of a text, if it is a file.
-fn tree(text: &str, alloc: Global) -> Result<Option<File>, NoMemory> {
-    let tokens = match tokens(text.as_bytes(), alloc)? {
+fn tree(alloc: Global, text: &str) -> Result<Option<File>, NoMemory> {
+    let tokens = match tokens(alloc, text.as_bytes())? {
         Some(tokens) => tokens,
         None => return Ok(None),
     };
@@ -53,10 +53,10 @@ fn tree(text: &str, alloc: Global) -> Result<Option<File>, NoMemory> {
     }
 }
 
-fn all_rows(texts: &[&str], alloc: Global) -> Result<List<List<Option<Cell>>>, NoMemory> {
+fn all_rows(alloc: Global, texts: &[&str]) -> Result<List<List<Option<Cell>>>, NoMemory> {
     let mut done = List::new(alloc);
     for text in texts {
-        done.push(row(text, alloc)?)?;
+        done.push(row(alloc, text)?)?;
     }
     Ok(done)
 }
@@ -70,10 +70,10 @@ fn line_count(args: &[List<Option<Cell>>]) -> u32 {
 
 /// What a node of a file gives, in words.
 fn file_words(
+    alloc: Global,
     program: &Program,
     file: &File,
     args: List<List<Option<Cell>>>,
-    alloc: Global,
 ) -> Result<Option<String>, NoMemory> {
     let number = match file.names.find(program.node) {
         Some(name) => definition_number(name, file.defs.as_slice()),
@@ -83,20 +83,20 @@ fn file_words(
         Some(k) => k,
         None => return Ok(None),
     };
-    let defs = annotated_file(file.defs.as_slice(), &file.names, program.hints, alloc)?;
+    let defs = annotated_file(alloc, file.defs.as_slice(), &file.names, program.hints)?;
     let lines = line_count(args.as_slice());
     let answer = program_network(alloc, defs.as_slice(), lines, k, args)?;
-    Ok(Some(words(&answer, alloc)?))
+    Ok(Some(words(alloc, &answer)?))
 }
 
 /// What a node gives on these rows, in words: a cell for each line, or `!` where it is alarmed.
-pub fn run(program: &Program, args: &[&str], alloc: Global) -> Result<String, NoMemory> {
-    let file = match tree(program.text, alloc)? {
+pub fn run(alloc: Global, program: &Program, args: &[&str]) -> Result<String, NoMemory> {
+    let file = match tree(alloc, program.text)? {
         Some(file) => file,
         None => return Ok(String::from_str(alloc, "no file")?),
     };
-    let args = all_rows(args, alloc)?;
-    match file_words(program, &file, args, alloc)? {
+    let args = all_rows(alloc, args)?;
+    match file_words(alloc, program, &file, args)? {
         Some(words) => Ok(words),
         None => Ok(String::from_str(alloc, "no node")?),
     }

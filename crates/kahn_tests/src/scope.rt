@@ -33,7 +33,7 @@ pub struct At {
 }
 
 /// A clock where it is sampled on a case of a clock name.
-pub fn sampled(ck: &ClockTerm, m: u32, case: u32, alloc: Global) -> Result<ClockTerm, NoMemory> {
+pub fn sampled(alloc: Global, ck: &ClockTerm, m: u32, case: u32) -> Result<ClockTerm, NoMemory> {
     let inner = Boxed::new(alloc, ck.copy(alloc)?)?;
     Ok(ClockTerm::On(inner, m, case))
 }
@@ -55,11 +55,11 @@ impl At {
     }
 
     /// In the arm of a block with this clock name.
-    pub fn within(&self, m: u32, arm: u32, alloc: Global) -> Result<At, NoMemory> {
+    pub fn within(&self, alloc: Global, m: u32, arm: u32) -> Result<At, NoMemory> {
         let mut arms = self.arms.copy(alloc)?;
         arms.push((m, arm))?;
         Ok(At {
-            ck: sampled(&self.ck, m, arm, alloc)?,
+            ck: sampled(alloc, &self.ck, m, arm)?,
             arms,
         })
     }

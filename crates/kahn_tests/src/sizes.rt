@@ -27,7 +27,7 @@ fn program(alloc: Global) -> Result<String, NoMemory> {
 }
 
 /// The row `a, a + step, ..` with a word for each line.
-fn steps(first: i64, step: i64, alloc: Global) -> Result<String, NoMemory> {
+fn steps(alloc: Global, first: i64, step: i64) -> Result<String, NoMemory> {
     let mut row = String::new(alloc);
     let mut value = first;
     let mut line = 0;
@@ -46,10 +46,10 @@ fn steps(first: i64, step: i64, alloc: Global) -> Result<String, NoMemory> {
 fn five_hundred_equations(rt: HostRuntime) -> Result<(), Fail> {
     let alloc = rt.alloc();
     let text = program(alloc)?;
-    let lines = steps(1, 1, alloc)?;
-    let expected = steps(1, EQUATIONS, alloc)?;
+    let lines = steps(alloc, 1, 1)?;
+    let expected = steps(alloc, 1, EQUATIONS)?;
     assert_eq!(rt;
-        run(&node_of("f", text.as_str()), &[lines.as_str()], alloc)?.as_str(),
+        run(alloc, &node_of("f", text.as_str()), &[lines.as_str()])?.as_str(),
         expected.as_str()
     );
     Ok(())
