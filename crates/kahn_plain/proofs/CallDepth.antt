@@ -23,9 +23,11 @@ use Rattle.kahn_plain.specs.Alarms as heard
 use Rattle.kahn_plain.specs.Turns as own
 use Rattle.kahn_plain.proofs.Standing.{by_cells, cell_is, same_on}
 
-pub result_is : (b : Body) (T : Asked) → T ≡ own.least b
-    → written_row b.lines 0 (Turn.cell (spec.cases b) b.defs.now (spec.call b) b.def.now (spec.around b) T [] b.def.now.result) ≡ written_row b.lines 0 (own.result b)
-result_is b T e = ap (λ (z : Asked). written_row b.lines 0 (Turn.cell (spec.cases b) b.defs.now (spec.call b) b.def.now (spec.around b) z [] b.def.now.result)) e
+pub result_is : (b : Body) (T : Asked) (d : Definition) → T ≡ own.least b → d ≡ b.def.now
+    → written_row b.lines 0 (Turn.cell (spec.cases b) b.defs.now (spec.call b) b.def.now (spec.around b) T [] d.result) ≡ written_row b.lines 0 (own.result b)
+result_is b T d e f =
+    ap (λ (z : Asked). written_row b.lines 0 (Turn.cell (spec.cases b) b.defs.now (spec.call b) b.def.now (spec.around b) z [] d.result)) e
+    ∙ ap (λ (z : Definition). written_row b.lines 0 (Turn.cell (spec.cases b) b.defs.now (spec.call b) b.def.now (spec.around b) (own.least b) [] z.result)) f
 
 one_less : (i : ℕ) → suc i - 1 ≡ i
 one_less i = omega arith

@@ -1,5 +1,6 @@
 -- Cells from the rows of right sides are the cells of a turn.
 use Rattle.std.specs.Prelude.{◌≡◌, refl, ℕ, zero, suc, ◌+◌, ◌-◌, ◌<◌, ◌≤◌, Bool, true, false, List, [], ◌∷◌, ◌++◌, map, Option, Some, None, length}
+use Rattle.std.proofs.Math.Seq.{drop-cons}
 use Rattle.std.proofs.lemmas.List.{drop_all}
 use Rattle.std.proofs.Common.{ap, arith, drop, get_or, subst, sym, ◌∙◌}
 use Rattle.ls_ast.specs.declared.tree.Expr.{Expr, Expr-F, fold-Expr, fold_out-Expr, out-Expr}
@@ -29,7 +30,6 @@ use Rattle.kahn_model.specs.Functions.{Arg, Said, def, given, nowhere, row_of, s
 use Rattle.kahn_model.specs.Rows.{Row, know, previous}
 use Rattle.kahn_model.specs.Table.{cell_in, written_row}
 use Rattle.kahn_model.specs.Turn
-use Rattle.kahn_cells.proofs.Binds.{one_on}
 use Rattle.kahn_cells.specs.Groups.{picked}
 use Rattle.kahn_exprs.specs.declared.body.Body.{Body}
 use Rattle.kahn_exprs.specs.Body as spec
@@ -249,13 +249,14 @@ module _ (b : Body) where
   -- ---- the equations of a variable, the last one first
 
   -- from the end of the numbers, one step on
-  number_back : (all : List ℕ) (back k : ℕ) → back < length all → k ≡ get_or all (length all - 1 - back) k → k ∷ drop (length all - back) all ≡ drop (length all - (back + 1)) all
+  number_back : (all : List ℕ) (back k : ℕ) → back < length all → k ≡ get_or all (length all - 1 - back) 0 → k ∷ drop (length all - back) all ≡ drop (length all - (back + 1)) all
   number_back all back k below is =
-      let same : length all - (back + 1) ≡ length all - 1 - back = omega arith in
-      let on : length all - (back + 1) + 1 ≡ length all - back = omega (arith, below) in
-      ap (λ z. k ∷ drop z all) (sym on) ∙ sym (one_on all (length all - (back + 1)) k (omega (arith, below)) (ap (λ z. get_or all z k) same ∙ sym is))
+      let here : length all - 1 - back ≡ length all - (back + 1) = omega arith in
+      let on : length all - back ≡ suc (length all - (back + 1)) = omega (arith, below) in
+      ap (λ z. z ∷ drop (length all - back) all) (is ∙ ap (λ z. get_or all z 0) here) ∙ ap (λ z. get_or all (length all - (back + 1)) 0 ∷ drop z all) on
+      ∙ sym (drop-cons all (length all - (back + 1)) 0 (omega (arith, below)))
 
-  pub sites_next : (w : Variable) (o : Row Cell) (all : List ℕ) (back k : ℕ) (done next : own.Standing) → back < length all → k ≡ get_or all (length all - 1 - back) k → own.AddsSite b w k done next
+  pub sites_next : (w : Variable) (o : Row Cell) (all : List ℕ) (back k : ℕ) (done next : own.Standing) → back < length all → k ≡ get_or all (length all - 1 - back) 0 → own.AddsSite b w k done next
       → done ≡ written_row b.lines 0 (own.by_numbers b w o (drop (length all - back) all)) → next ≡ written_row b.lines 0 (own.by_numbers b w o (drop (length all - (back + 1)) all))
   sites_next w o all back k done next below is adds so_far =
       adds o (drop (length all - back) all) so_far ∙ ap (λ z. written_row b.lines 0 (own.by_numbers b w o z)) (number_back all back k below is)
@@ -267,5 +268,6 @@ module _ (b : Body) where
   pub sites_are : (x : ℕ) (w : Variable) (all : List ℕ) (back : ℕ) (done : own.Standing) → length all ≤ back → picked b.def.now.places.sites all ≡ sites_of x b.def.now.places.sites
       → done ≡ written_row b.lines 0 (own.by_numbers b w (spec.otherwise b x w) (drop (length all - back) all)) → done ≡ written_row b.lines 0 (own.unclocked b x w)
   sites_are x w all back done past found is =
-      is ∙ ap (λ z. written_row b.lines 0 (own.by_numbers b w (spec.otherwise b x w) (drop z all))) (omega (arith, past))
+      let none_left : length all - back ≡ 0 = omega (arith, past) in
+      is ∙ ap (λ z. written_row b.lines 0 (own.by_numbers b w (spec.otherwise b x w) (drop z all))) none_left
       ∙ ap (λ z. written_row b.lines 0 (spec.by_sites b w (spec.otherwise b x w) z)) found

@@ -1,6 +1,10 @@
 -- What is around a node, on its lines.
 use Rattle.std.specs.Prelude.{◌≡◌, refl, ℕ, true, false, List, [], ◌∷◌, map, Option, Some}
 use Rattle.std.proofs.Common.{ap, ap₂, subst, sym, ◌∙◌}
+use Rattle.ls_ast.specs.declared.tree.DefOf.{DefOf}
+use Rattle.ls_sig.specs.declared.binder.Note.{Note}
+use Rattle.ls_places.specs.Definitions.{case_place, definitions}
+use Rattle.kahn_model.specs.Program
 use Rattle.kahn_model.specs.declared.cell.Cell.{Cell}
 use Rattle.ls_places.specs.declared.definition.Definition.{Definition}
 use Rattle.kahn_model.specs.Alarm.{alarms, network_alarm}
@@ -53,3 +57,14 @@ module _ (cases : ℕ → Option ℕ) (defs : List Definition) (n : ℕ) where
       ∙ ap (λ z. written_row n 0 (λ i. say is_yes (alarms cases defs n 201 k (around_of z) i))) e
       ∙ same_on n (λ i. say is_yes (alarms cases defs n 201 k (around_of (own.run_context n args)) i)) (network_alarm cases defs n k (own.streams args))
       (λ i p. ap (say is_yes) (law cases defs n 201 k (around_of (own.run_context n args)) (whole_run cases defs n (own.streams args)) (run_alike args) i p))
+
+-- of a file whose constructors and definitions are known by equations
+pub file_row : (file cases : List (DefOf Note)) (defs : List Definition) (n k : ℕ) (args : List (List (Option Cell))) → cases ≡ file → defs ≡ definitions (case_place cases) file
+    → written_row n 0 (network (case_place cases) defs n k (own.streams args)) ≡ written_row n 0 (Program.network file n k (own.streams args))
+file_row file cases defs n k args e f = ap (λ z. written_row n 0 (network (case_place cases) z n k (own.streams args))) f
+    ∙ ap (λ z. written_row n 0 (network (case_place z) (definitions (case_place z) file) n k (own.streams args))) e
+
+pub file_alarms : (file cases : List (DefOf Note)) (defs : List Definition) (n k : ℕ) (args : List (List (Option Cell))) → cases ≡ file → defs ≡ definitions (case_place cases) file
+    → written_row n 0 (network_alarm (case_place cases) defs n k (own.streams args)) ≡ written_row n 0 (Program.alarms file n k (own.streams args))
+file_alarms file cases defs n k args e f = ap (λ z. written_row n 0 (network_alarm (case_place cases) z n k (own.streams args))) f
+    ∙ ap (λ z. written_row n 0 (network_alarm (case_place z) (definitions (case_place z) file) n k (own.streams args))) e
