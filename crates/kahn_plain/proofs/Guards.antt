@@ -1,5 +1,5 @@
 -- Guards by the rows of their conditions, one after the other.
-use Rattle.std.specs.Prelude.{◌≡◌, refl, ℕ, zero, suc, ◌+◌, ◌-◌, ◌<◌, ◌≤◌, Bool, true, false, length, List, [], ◌∷◌, Option, Some, None}
+use Rattle.std.specs.Prelude.{◌≡◌, refl, ℕ, zero, suc, ◌+◌, ◌-◌, ◌<◌, ◌≤◌, false, length, List, [], ◌∷◌, Option, Some, None}
 use Rattle.std.proofs.Common.{ap, arith, drop, get_or, sym, take, ◌∙◌}
 use Rattle.ls_places.specs.Places.{Place}
 use Rattle.ls_places.specs.Search.{nth, state_of}

@@ -1,12 +1,12 @@
 -- Cells from the rows of right sides are the cells of a turn.
-use Rattle.std.specs.Prelude.{◌≡◌, refl, ℕ, zero, suc, ◌+◌, ◌-◌, ◌<◌, ◌≤◌, Bool, true, false, List, [], ◌∷◌, ◌++◌, map, Option, Some, None, length}
+use Rattle.std.specs.Prelude.{◌≡◌, refl, ℕ, zero, suc, ◌+◌, ◌-◌, ◌<◌, ◌≤◌, Bool, true, false, List, [], ◌∷◌, ◌++◌, Option, Some, None, length}
 use Rattle.std.proofs.Math.Seq.{drop-cons}
 use Rattle.std.proofs.lemmas.List.{drop_all}
-use Rattle.std.proofs.Common.{ap, arith, drop, get_or, subst, sym, ◌∙◌}
-use Rattle.ls_ast.specs.declared.tree.Expr.{Expr, Expr-F, fold-Expr, fold_out-Expr, out-Expr}
+use Rattle.std.proofs.Common.{ap, arith, drop, get_or, sym, ◌∙◌}
+use Rattle.ls_ast.specs.declared.tree.Expr.{Expr, fold_out-Expr}
 use Rattle.ls_ast.specs.declared.tree.Pat.{Pat}
 use Rattle.ls_places.specs.Places.{Place, option_list}
-use Rattle.ls_places.specs.Search.{and, guards_of, never, nth, sites_of, start_of, whole_at, whole_of}
+use Rattle.ls_places.specs.Search.{and, guards_of, never, nth, sites_of, start_of, whole_at}
 use Rattle.ls_places.specs.declared.places.Named.{Named}
 use Rattle.ls_places.specs.declared.places.Named.TheVariants as named
 use Rattle.ls_places.specs.declared.places.Right.{Right}
@@ -18,7 +18,7 @@ use Rattle.ls_places.specs.declared.places.Variable.{Variable}
 use Rattle.ls_places.specs.declared.places.Whole.{Whole}
 use Rattle.ls_places.specs.declared.definition.Key.TheVariants as key
 use Rattle.ls_sig.specs.declared.binder.Note.{Note}
-use Rattle.ls_terms.specs.declared.clocks.ClockTerm.{ClockTerm, fold-roll-ClockTerm}
+use Rattle.ls_terms.specs.declared.clocks.ClockTerm.{fold-roll-ClockTerm}
 use Rattle.ls_terms.specs.declared.clocks.ClockTerm.TheOpen.{ClockTerm-F}
 use Rattle.ls_terms.specs.declared.clocks.ClockTerm.TheVariants as clock
 use Rattle.ls_terms.specs.declared.clocks.ClockTerm.TheVariants.{rolls-Pointwise}

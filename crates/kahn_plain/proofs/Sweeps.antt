@@ -247,7 +247,7 @@ module _ (b : Body) where
         → cells ≡ written_row b.lines 0 (own.turn_of b (table r) k) → Merged k b.lines cells r more new → own.Renewed b (own.Only k) r more new
     merged_renewed law k cells r new more low h is m =
         let at : (i : ℕ) → i < b.lines → cell_in cells i ≡ own.turn_of b (table r) k i
-            = λ i p. ap (λ z. cell_in z i) is ∙ cell_written b.lines 0 i i (own.turn_of b (table r) k) p (omega arith) in
+        = λ i p. ap (λ z. cell_in z i) is ∙ cell_written b.lines 0 i i (own.turn_of b (table r) k) p (omega arith) in
         record {
           low = record {
             below = λ l i x e. elim (m.only l i x e) [
@@ -342,8 +342,8 @@ module _ (b : Body) where
         let T : Asked = table new in
         let same : table old ≡ T = λ t k i. sym (m.same e k i) t in
         let is : written (row_keys b.def.now) b.lines T ≡ Table.table_of (spec.cases b) b.defs.now b.lines (spec.call b) b.def.now (spec.around b)
-            = law (row_keys b.def.now) b.lines (own.turn_of b) mono T m.low.below
-            (λ k i h p none. ap (λ (U : Asked). own.turn_of b U k i) (sym same) ∙ no_more (own.turn_of b (table old) k i) (T k i) (m.turned k (has_range b.def.now k h) i p) none) in
+        = law (row_keys b.def.now) b.lines (own.turn_of b) mono T m.low.below
+        (λ k i h p none. ap (λ (U : Asked). own.turn_of b U k i) (sym same) ∙ no_more (own.turn_of b (table old) k i) (T k i) (m.turned k (has_range b.def.now k h) i p) none) in
         equal T (own.least b) m.low.below (λ k i. subst (λ R. Below (read R k i) (T k i)) is (read_below_written (row_keys b.def.now) b.lines T k i))
 
     -- ---- so many sweeps
@@ -376,6 +376,7 @@ module _ (b : Body) where
       where
         two : (a c l : ℕ) → a * l + c * l ≡ (a + c) * l
         two a c l = omega arith
+
         four : (v n r l : ℕ) → (((0 + v * l) + v * l) + n * l) + r * l ≡ (((v + v) + n) + r) * l
         four v n r l = ap (λ z. (z + n * l) + r * l) (ap (λ z. z + v * l) (omega arith) ∙ two v v l) ∙ ap (λ z. z + r * l) (two (v + v) n l) ∙ two ((v + v) + n) r l
 

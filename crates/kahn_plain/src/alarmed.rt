@@ -93,7 +93,14 @@ fn any_alarm<C: Calls, A: Alarms>(
     let mut done = no_alarms(alloc, body.lines)?;
     for back in 0..all.len() {
         let whole = &all[all.len() - 1 - back];
-        let one = alarm_row(alloc, body, call, alarmed, whole.place.as_slice(), &whole.expr)?;
+        let one = alarm_row(
+            alloc,
+            body,
+            call,
+            alarmed,
+            whole.place.as_slice(),
+            &whole.expr,
+        )?;
         done = either_row(alloc, body.lines, one.as_slice(), done.as_slice())?;
     }
     Ok(done)

@@ -13,9 +13,7 @@ use crate::blocks::name_row;
 use kahn_cells::cells::{at, copy_known, part};
 use kahn_cells::search::{arms, nth};
 use kahn_cells::values::nil;
-use kahn_exprs::{
-    Body, Calls, absent_row, cell_in, last, param_cell, read, row, variable_here,
-};
+use kahn_exprs::{Body, Calls, absent_row, cell_in, last, param_cell, read, row, variable_here};
 use kahn_model::{Cell, Reach};
 use ls_ast::Pat;
 use ls_base::{List, NoMemory};
@@ -273,7 +271,14 @@ fn one_site<C: Calls>(
         None => Ok(more),
         Some(s) => {
             let cells = right_row(alloc, body, call, w.name, s.place.as_slice(), &s.right)?;
-            site_row(alloc, body, w.signal, s.inner.as_slice(), cells.as_slice(), more.as_slice())
+            site_row(
+                alloc,
+                body,
+                w.signal,
+                s.inner.as_slice(),
+                cells.as_slice(),
+                more.as_slice(),
+            )
         }
     }
 }

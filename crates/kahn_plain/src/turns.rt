@@ -102,10 +102,7 @@ fn new_row<C: Calls>(
     requires number { own.IsNumbered key }
     ensures { IfOk result (λ r. r ≡ model.written_row body.now.lines 0 (own.turn_of body.now (standing.table rows.now) key)) }
 {
-    let then = Body {
-        rows,
-        ..*body
-    };
+    let then = Body { rows, ..*body };
     turn_row(alloc, &then, call, key)
 }
 
@@ -158,12 +155,7 @@ fn renew_kind<C: Calls>(
 }
 
 /// Makes all rows anew that are not full, each from what stands when its turn comes.
-fn sweep<C: Calls>(
-    alloc: Global,
-    body: &Body,
-    call: &C,
-    rows: &mut Rows,
-) -> Result<bool, NoMemory>
+fn sweep<C: Calls>(alloc: Global, body: &Body, call: &C, rows: &mut Rows) -> Result<bool, NoMemory>
     requires can { Serves (C.can call.now) body.now }
     requires numbers { own.AreNumbered body.now.def.now }
     requires low { own.Low body.now rows.old }
@@ -175,7 +167,15 @@ fn sweep<C: Calls>(
     let first = def.params.len() as u32;
     let a = renew_kind(alloc, body, call, Kind::Var, 0, places.vars.len(), rows)?;
     let b = renew_kind(alloc, body, call, Kind::Start, 0, places.vars.len(), rows)?;
-    let c = renew_kind(alloc, body, call, Kind::Name, first, places.names.len(), rows)?;
+    let c = renew_kind(
+        alloc,
+        body,
+        call,
+        Kind::Name,
+        first,
+        places.names.len(),
+        rows,
+    )?;
     let d = renew_kind(alloc, body, call, Kind::Reset, 0, places.resets.len(), rows)?;
     Ok(or(or(a, b), or(c, d)))
 }

@@ -92,7 +92,12 @@ fn numbered(alloc: Global, k: u32, ck: &ClockTerm) -> Result<ClockTerm, NoMemory
 }
 
 /// The clock of a name at a place with this clock.
-fn told_clock(told: Told, ck: &ClockTerm, arms: &[(u32, u32)], scope: &Scope) -> Result<ClockTerm, NoMemory> {
+fn told_clock(
+    told: Told,
+    ck: &ClockTerm,
+    arms: &[(u32, u32)],
+    scope: &Scope,
+) -> Result<ClockTerm, NoMemory> {
     match told {
         Told::Here | Told::Signal | Told::Restarts(_) => ck.copy(scope.alloc),
         Told::Free(k) => Ok(ClockTerm::Var(k)),
@@ -147,7 +152,12 @@ fn note(
         },
         _ => (data(alloc, signal)?, ck.copy(alloc)?),
     };
-    Ok(Note { bound, ty, ck, restarts: List::new(alloc) })
+    Ok(Note {
+        bound,
+        ty,
+        ck,
+        restarts: List::new(alloc),
+    })
 }
 
 #[cycle(expr)]
@@ -558,7 +568,11 @@ fn body(all: &BodyOf<Plain>, scope: &Scope) -> Result<BodyOf<Note>, NoMemory> {
 fn parameter_note(pat: &Pat, scope: &Scope) -> Result<Note, NoMemory> {
     let alloc = scope.alloc;
     let told = told_of(pat, scope);
-    let ty = if is_function(told) { arrow(alloc)? } else { data(alloc, false)? };
+    let ty = if is_function(told) {
+        arrow(alloc)?
+    } else {
+        data(alloc, false)?
+    };
     Ok(Note {
         bound: Binder::Nothing,
         ty,
@@ -576,14 +590,28 @@ fn parameter_notes(params: &[Pat], scope: &Scope) -> Result<List<Note>, NoMemory
 }
 
 /// An item of a file.
-fn definition(alloc: Global, def: &Def, defs: &[Def], names: &Names, hints: &[Hint]) -> Result<DefOf<Note>, NoMemory> {
+fn definition(
+    alloc: Global,
+    def: &Def,
+    defs: &[Def],
+    names: &Names,
+    hints: &[Hint],
+) -> Result<DefOf<Note>, NoMemory> {
     match def {
         DefOf::Cases { line, name, cases } => Ok(DefOf::Cases {
             line: *line,
             name: *name,
             cases: cases.copy(alloc)?,
         }),
-        DefOf::Let { line, node, name, params, marks, body: all, .. } => {
+        DefOf::Let {
+            line,
+            node,
+            name,
+            params,
+            marks,
+            body: all,
+            ..
+        } => {
             let places = find(alloc, params.len() as u32, &Unasked, &Unasked, all)?;
             let scope = Scope {
                 def: *name,

@@ -7,8 +7,7 @@ use kahn_cells::cells::{
 };
 use kahn_cells::clocks::{bare, clocks_in, is_function};
 use kahn_cells::search::{
-    arms, binds, case_value, chosen_arm, copy_arms, guards_of, has_name, nth, starts_with,
-    state_of,
+    arms, binds, case_value, chosen_arm, copy_arms, guards_of, has_name, nth, starts_with, state_of,
 };
 use kahn_cells::values::{alarm, case_of, copy_value, eval, is_nil, nil, pick, the_leaf, tuple};
 use kahn_cells::{Constructors, Prepared};

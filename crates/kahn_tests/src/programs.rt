@@ -372,8 +372,7 @@ fn two_functions_as_arguments(rt: HostRuntime) -> Result<(), Fail> {
 #[test]
 fn a_call_that_begins_anew(rt: HostRuntime) -> Result<(), Fail> {
     let alloc = rt.alloc();
-    let text =
-        "let node sum x = s where rec s = x + (0 fby s)\nlet node z x c = (sum x every c)";
+    let text = "let node sum x = s where rec s = x + (0 fby s)\nlet node z x c = (sum x every c)";
     let args = ["1 2 3 4", "false false true false"];
     assert_eq!(rt; run(alloc, &node_of("z", text), &args)?.as_str(), "1 3 3 7");
     Ok(())
@@ -539,7 +538,12 @@ let node m c = (o, p) where rec match pre c with
 fn a_scrutinee_without_a_value(rt: HostRuntime) -> Result<(), Fail> {
     let alloc = rt.alloc();
     assert_eq!(rt;
-        run(alloc, &node_of("m", NO_SCRUTINEE), &["true true false true"])?.as_str(),
+        run(
+            alloc,
+            &node_of("m", NO_SCRUTINEE),
+            &["true true false true"]
+        )?
+        .as_str(),
         "nil (1,0) (1,1) (2,5)"
     );
     Ok(())
@@ -705,7 +709,10 @@ fn an_automaton_around_one_that_tests_a_signal(rt: HostRuntime) -> Result<(), Fa
         hints: &hints,
         ..node_of("f", NESTED_AUTOMATA)
     };
-    assert_eq!(rt; run(alloc, &nested, &["false true false"])?.as_str(), "1 ! 1");
+    assert_eq!(rt;
+        run(alloc, &nested, &["false true false"])?.as_str(),
+        "1 ! 1"
+    );
     Ok(())
 }
 
@@ -765,11 +772,17 @@ let node f a = q where rec match a with | true -> do emit s = 1 done | false -> 
 #[test]
 fn an_expression_that_restarts_by_a_variable(rt: HostRuntime) -> Result<(), Fail> {
     let alloc = rt.alloc();
-    let count = node_of("f", "let node f c = o where rec o = 0 fby (o + 1) and r = c");
+    let count = node_of(
+        "f",
+        "let node f c = o where rec o = 0 fby (o + 1) and r = c",
+    );
     let args = ["false false true false"];
     assert_eq!(rt; run(alloc, &count, &args)?.as_str(), "0 1 2 3");
     let hints = [hint("f", "o", Told::Restarts("r"))];
-    let anew = Program { hints: &hints, ..count };
+    let anew = Program {
+        hints: &hints,
+        ..count
+    };
     assert_eq!(rt; run(alloc, &anew, &args)?.as_str(), "0 1 0 1");
     Ok(())
 }

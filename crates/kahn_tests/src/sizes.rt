@@ -8,6 +8,7 @@ use std::alloc::Global;
 use std::test::Fail;
 
 const EQUATIONS: i64 = 500;
+
 const LINES: i64 = 50;
 
 /// `y0 = x` and `yK = yJ + (0 fby x)` for each K with J = K - 1: at line i the last is

@@ -1,6 +1,6 @@
-use Rattle.std.proofs.Common.{◌≡◌, ◌++◌, ◌-◌, drop, length}
+use Rattle.std.proofs.Common.{◌≡◌, ◌-◌, drop, length}
 use Rattle.kahn_plain.specs.Alarms as heard
-use Rattle.kahn_model.specs.Table.{cell_in, written_row}
+use Rattle.kahn_model.specs.Table.{written_row}
 use Rattle.kahn_plain.proofs.alarmed.any_alarm.Given as goal
 
 abbrev pub invariant-loop-back : goal.invariant-loop-back

@@ -1,4 +1,4 @@
-use Rattle.std.proofs.Common.{◌≡◌, ◌++◌, ◌-◌, drop, length}
+use Rattle.std.proofs.Common.{◌≡◌, drop}
 use Rattle.kahn_plain.specs.Equations as own
 use Rattle.kahn_plain.proofs.blocks.by_guards.Given as goal
 

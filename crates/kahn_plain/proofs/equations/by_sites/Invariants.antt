@@ -1,7 +1,7 @@
-use Rattle.std.proofs.Common.{◌≡◌, ◌++◌, ◌-◌, drop, length}
+use Rattle.std.proofs.Common.{◌≡◌, ◌-◌, drop, length}
 use Rattle.kahn_plain.specs.Equations as own
 use Rattle.kahn_exprs.specs.Body as spec
-use Rattle.kahn_model.specs.Table.{cell_in, written_row}
+use Rattle.kahn_model.specs.Table.{written_row}
 use Rattle.kahn_plain.proofs.equations.by_sites.Given as goal
 
 abbrev pub invariant-loop-back : goal.invariant-loop-back

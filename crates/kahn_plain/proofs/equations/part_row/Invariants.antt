@@ -1,4 +1,4 @@
-use Rattle.std.proofs.Common.{◌≡◌, ◌++◌, ◌-◌, drop, length}
+use Rattle.std.proofs.Common.{◌≡◌}
 use Rattle.kahn_plain.specs.Equations as own
 use Rattle.kahn_model.specs.Table.{cell_in, written_row}
 use Rattle.kahn_plain.proofs.equations.part_row.Given as goal

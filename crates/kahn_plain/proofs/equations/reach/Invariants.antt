@@ -1,4 +1,4 @@
-use Rattle.std.proofs.Common.{◌≡◌, ◌++◌, ◌-◌, drop, length}
+use Rattle.std.proofs.Common.{◌≡◌, drop}
 use Rattle.kahn_exprs.specs.Body as spec
 use Rattle.kahn_plain.proofs.equations.reach.Given as goal
 

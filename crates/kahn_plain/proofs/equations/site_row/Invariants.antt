@@ -1,6 +1,6 @@
-use Rattle.std.proofs.Common.{◌≡◌, ◌++◌, ◌-◌, drop, length}
+use Rattle.std.proofs.Common.{◌≡◌}
 use Rattle.kahn_plain.specs.Equations as own
-use Rattle.kahn_model.specs.Table.{cell_in, written_row}
+use Rattle.kahn_model.specs.Table.{written_row}
 use Rattle.kahn_plain.proofs.equations.site_row.Given as goal
 
 abbrev pub invariant-loop-i : goal.invariant-loop-i

@@ -1,6 +1,6 @@
 use Rattle.ls_places.specs.Search.{nth}
 use Rattle.ls_places.specs.declared.definition.Definition.{Definition}
-use Rattle.std.proofs.Common.{◌≡◌, ◌∙◌, ap, sym}
+use Rattle.std.proofs.Common.{◌∙◌, ap}
 use Rattle.kahn_plain.proofs.Rights.{never_is, whole_is}
 use Rattle.kahn_plain.proofs.Standing.{ok_same}
 use Rattle.kahn_plain.proofs.equations.whole_row.Goals as goal

@@ -14,7 +14,7 @@ use Rattle.kahn_plain.proofs.Standing.{ok_same}
 use Rattle.kahn_plain.proofs.program.definition.Goals as goal
 
 abbrev made_of : List Pat → List ClockTerm → Expr Note → Places Note → Definition
-made_of a b c d = record { params = a; clocks = b; result = c; places = d; }
+made_of a b c d = record { params = a; clocks = b; result = c; places = d }
 
 made : (cases : ℕ → Option ℕ) (params copied : List Pat) (notes : List Note) (clocks : List ClockTerm) (body : BodyOf Note) (result : Expr Note) (places : Places Note) (n : ℕ)
     → copied ≡ params → clocks ≡ note_clocks notes → result ≡ body.result → n ≡ length params → places ≡ find Note n cases (λ e. is_signal e.note) body

@@ -1,4 +1,4 @@
-use Rattle.std.proofs.Common.{◌≡◌, ◌++◌, ◌-◌, drop, length}
+use Rattle.std.proofs.Common.{◌≡◌, ◌++◌, drop}
 use Rattle.ls_places.specs.Definitions as places
 use Rattle.kahn_plain.specs.Turns.{EachNumbered}
 use Rattle.kahn_plain.proofs.program.definitions.Given as goal

@@ -1,4 +1,4 @@
-use Rattle.kahn_plain.proofs.Sweeps.{merged_more, merged_none}
+use Rattle.kahn_plain.proofs.Sweeps.{merged_more}
 use Rattle.kahn_plain.proofs.turns.merge.Goals as goal
 
 pub loop-i-preserved : goal.loop-i-preserved

@@ -1,4 +1,4 @@
-use Rattle.std.proofs.Common.{◌≡◌, arith, subst, sym}
+use Rattle.std.proofs.Common.{◌≡◌, arith, subst}
 use Rattle.kahn_plain.specs.Turns as own
 use Rattle.kahn_plain.proofs.Sweeps.{kind_more, none_renewed, turn_mono}
 use Rattle.kahn_plain.proofs.turns.renew_kind.Goals as goal

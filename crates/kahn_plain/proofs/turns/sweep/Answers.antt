@@ -1,6 +1,5 @@
-use Rattle.std.proofs.Common.{◌≡◌, ◌∙◌, ap, length}
+use Rattle.std.proofs.Common.{◌∙◌, ap, length}
 use Rattle.ls_places.specs.declared.definition.Definition.{Definition}
-use Rattle.kahn_plain.specs.Turns as own
 use Rattle.kahn_plain.proofs.Sweeps.{four_by, turn_mono}
 use Rattle.kahn_plain.proofs.turns.sweep.Goals as goal
 

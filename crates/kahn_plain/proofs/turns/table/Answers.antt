@@ -1,4 +1,4 @@
-use Rattle.std.proofs.Common.{◌≡◌, ◌∙◌, ap, length}
+use Rattle.std.proofs.Common.{◌∙◌, ap, length}
 use Rattle.ls_places.specs.declared.definition.Definition.{Definition}
 use Rattle.kahn_plain.proofs.Sweeps.{ended_by, turn_mono}
 use Rattle.kahn_plain.proofs.turns.table.Goals as goal
