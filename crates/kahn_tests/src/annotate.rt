@@ -556,7 +556,7 @@ fn guards(
 
 fn body(all: &BodyOf<Plain>, scope: &Scope) -> Result<BodyOf<Note>, NoMemory> {
     let top = At::top(scope.alloc);
-    let mut next = scope.params.len() as u32;
+    let mut next = scope.first_name();
     let eqs = equations(all.eqs.as_slice(), &top, scope, &mut next)?;
     Ok(BodyOf {
         result: at_place(&all.result, &top, scope)?,

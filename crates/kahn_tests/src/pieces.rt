@@ -313,24 +313,43 @@ fn arms_around_places(rt: HostRuntime) -> Result<(), Fail> {
 }
 
 #[test]
-fn what_is_prepared(rt: HostRuntime) -> Result<(), Fail> {
+fn clocks_that_are_prepared(rt: HostRuntime) -> Result<(), Fail> {
+    let alloc = rt.alloc();
+    let one = prepared(alloc, &[1])?;
+    assert!(rt; one.home(7) == [(0, 0)].as_slice() && one.home(9).is_empty());
+    assert!(rt; one.in_signature(0) && !one.in_signature(7));
+    assert!(rt; matches!(one.mode_clock(0), Some(ClockTerm::Var(0))));
+    assert!(rt; one.mode_clock(2).is_none() && one.tested_outside(0).is_none());
+    Ok(())
+}
+
+/// Whether some arm has no equation for the variable 0.
+fn lacks_first(def: &Prepared) -> bool {
+    def.definition().places.vars.len() > 0 && def.lacks(0)
+}
+
+#[test]
+fn equations_that_are_prepared(rt: HostRuntime) -> Result<(), Fail> {
     let alloc = rt.alloc();
     let one = prepared(alloc, &[1])?;
     let both_arms = prepared(alloc, &[1, 0])?;
-    assert!(rt; one.home(7) == [(0, 0)].as_slice() && one.home(9).is_empty());
-    assert!(rt; one.in_signature(0) && !one.in_signature(7));
-    assert!(rt; one.lacks(0) && !both_arms.lacks(0));
+    assert!(rt; one.definition().places.vars.len() == 2);
+    assert!(rt; lacks_first(&one) && !lacks_first(&both_arms));
     assert!(rt; both_arms.sites_of(0) == [0, 1].as_slice() && both_arms.sites_of(1).is_empty());
     let first = both_arms.first_site(0);
     assert!(rt; matches!(first, Some(s) if starts_with(s.inner.as_slice(), &[(0, 1)])));
+    Ok(())
+}
+
+#[test]
+fn names_that_are_prepared(rt: HostRuntime) -> Result<(), Fail> {
+    let alloc = rt.alloc();
+    let one = prepared(alloc, &[1])?;
     let found = one.start_of(&variable(alloc, 5)?);
     assert!(rt; matches!(found, Some(s) if s.name == 5));
     assert!(rt; one.start_of(&variable(alloc, 6)?).is_none());
     assert!(rt; one.signal_at(5, &[(0, 0), (1, 1)]) == Some(1));
     assert!(rt; one.signal_at(5, &[(0, 0)]).is_none());
-    assert!(rt; matches!(one.mode_clock(0), Some(ClockTerm::Var(0))));
-    assert!(rt; one.mode_clock(2).is_none() && one.tested_outside(0).is_none());
-    assert!(rt; one.definition().places.vars.len() == 2);
     Ok(())
 }
 

@@ -227,11 +227,18 @@ impl<'a> Scope<'a> {
         }
     }
 
+    /// The number of the first clock name that is no parameter's.
+    pub fn first_name(&self) -> u32 {
+        match u32::try_from(self.params.len()) {
+            Ok(first) => first,
+            Err(_) => 0,
+        }
+    }
+
     /// The number of the clock name of a condition.
     pub fn clock_name(&self, x: Name, arms: &[(u32, u32)]) -> u32 {
         if let Some(var) = variable(x, arms, self.vars) {
-            let first = self.params.len() as u32;
-            return first.saturating_add(clock_place(var, self.clocks));
+            return self.first_name().saturating_add(clock_place(var, self.clocks));
         }
         match whole_parameter(x, self.params) {
             Some(k) => k,
