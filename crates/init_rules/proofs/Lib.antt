@@ -1,0 +1,5 @@
+pub mod Body
+pub mod Decided
+pub mod Files
+pub mod Flow
+pub mod Least
