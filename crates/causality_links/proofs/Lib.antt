@@ -1,0 +1,5 @@
+pub mod Causes
+pub mod ClockReads
+pub mod Link
+pub mod Lists
+pub mod Rules

@@ -1,0 +1,8 @@
+//! Laws: each function has an empty body and a law as its contract.
+
+ghost use Rattle.causality_links.specs.Laws.{CausalByRules};
+
+/// A numbering by the rules makes a body causal in the model.
+pub fn causality_goes_by_rules()
+    ensures { CausalByRules }
+{}

@@ -1,0 +1,9 @@
+use Rattle.causality_rules.proofs.Cycles.{cycle_gives_items}
+use Rattle.causality_rules.proofs.Files.{cyclic_excludes}
+use Rattle.causality_rules.proofs.laws.cycles.Goals as goal
+
+pub returns-clause-items : goal.returns-clause-items
+returns-clause-items c = λ d nested rows cycle. cycle_gives_items d nested rows cycle
+
+pub returns-clause-excluded : goal.returns-clause-excluded
+returns-clause-excluded c = λ d rows cycle is. cyclic_excludes d rows cycle is

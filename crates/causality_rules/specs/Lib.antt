@@ -1,0 +1,4 @@
+pub mod Files
+pub mod Items
+pub mod Laws
+pub mod Reads

@@ -1,0 +1,5 @@
+pub mod Instants
+pub mod Solved
+pub mod Ordering
+pub mod Solutions
+pub mod Unique
