@@ -1,11 +1,10 @@
 -- A file is judged in one way.
-use Rattle.std.specs.Prelude.{◌≡◌, ℕ, List, [], ◌∷◌, ◌++◌, map}
+use Rattle.std.specs.Prelude.{ℕ, List, [], ◌∷◌, ◌++◌, map}
 use Rattle.std.proofs.Common.{subst}
 use Rattle.ls_sig.specs.declared.sigs.Item.{Item}
-use Rattle.ls_places.specs.declared.definition.Definition.{Definition}
 use Rattle.digraph.proofs.Numbering.{waits_exclude}
 use Rattle.causality_rules.specs.Reads.{reads}
-use Rattle.causality_rules.specs.Items.{is_condition, key_of, IsCausal, Ranked, WaitsForItself}
+use Rattle.causality_rules.specs.Items.{is_condition, key_of, IsCausal}
 use Rattle.causality_rules.specs.Files.{Let, AllRanked}
 use Rattle.causality_rules.specs.Laws.{RankedIsCausal, CyclicExcludes, NotBoth}
 

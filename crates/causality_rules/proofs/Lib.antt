@@ -1,3 +1,4 @@
 pub mod Cycles
 pub mod Files
 pub mod Lists
+pub mod Nested

@@ -1,7 +1,6 @@
 -- The items of a body, which are numbered: its variables, initial equations and blocks.
-use Rattle.std.specs.Prelude.{◌≡◌, ℕ, zero, suc, ◌+◌, ◌<◌, Bool, true, false, List, [], ◌∷◌, ◌++◌, map, length, Option, Some, None, if◌then◌else◌}
+use Rattle.std.specs.Prelude.{◌≡◌, ℕ, zero, suc, ◌+◌, Bool, true, false, List, [], ◌∷◌, ◌++◌, map, length, Option, Some, None, if◌then◌else◌}
 use Rattle.ls_places.specs.Patterns.{joined}
-use Rattle.ls_sig.specs.declared.binder.Note.{Note}
 use Rattle.ls_places.specs.declared.places.Named.{Named}
 use Rattle.ls_places.specs.declared.places.Named.TheVariants as named
 use Rattle.ls_places.specs.declared.places.Start.{Start}

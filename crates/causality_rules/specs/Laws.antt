@@ -1,9 +1,11 @@
 -- Laws of causality.
-use Rattle.std.specs.Prelude.{◌≡◌, ℕ, ◌<◌, List, [], ◌∷◌, Option, Some}
+use Rattle.std.specs.Prelude.{◌≡◌, ℕ, ◌<◌, List, [], Option, Some}
 use Rattle.ls_ast.specs.declared.tree.BodyOf.{BodyOf}
-use Rattle.ls_base.specs.declared.Line.{Line}
+use Rattle.ls_ast.specs.declared.tree.Pat.{Pat}
 use Rattle.ls_sig.specs.declared.binder.Note.{Note}
+use Rattle.ls_base.specs.declared.Line.{Line}
 use Rattle.ls_sig.specs.declared.sigs.Item.{Item}
+use Rattle.ls_places.specs.Definitions.{definition_of}
 use Rattle.ls_places.specs.declared.definition.Definition.{Definition}
 use Rattle.ls_places.specs.declared.definition.Key.{Key}
 use Rattle.ls_places.specs.declared.definition.Key.TheVariants as key
@@ -25,6 +27,10 @@ CyclicExcludes = (d : Definition) (rows : List Key) → Cyclic d rows → IsCaus
 -- the condition of a `reset` stands in earlier ones alone
 abbrev pub ResetsNested : Definition → Type 0
 ResetsNested d = (r k : ℕ) → nth d.places.resets r ≡ Some k → (q : ℕ) → In (key.Reset q) (place_rows (whole_of d k).place) → q < r
+
+-- as those of a definition do
+abbrev pub DefinitionNests : Type 0
+DefinitionNests = (cases : ℕ → Option ℕ) (params : List Pat) (notes : List Note) (body : BodyOf Note) → ResetsNested (definition_of cases params notes body)
 
 -- every cycle of rows gives items that wait for one another
 abbrev pub CycleGivesItems : Type 0

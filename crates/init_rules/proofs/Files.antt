@@ -1,14 +1,13 @@
 -- A file is judged in one way.
-use Rattle.std.specs.Prelude.{◌≡◌, refl, ℕ, zero, suc, Bool, true, false, List, [], ◌∷◌, ◌++◌, length, Option, Some}
+use Rattle.std.specs.Prelude.{◌≡◌, refl, ℕ, suc, Bool, true, false, List, [], ◌∷◌, ◌++◌, length, Some}
 use Rattle.std.proofs.Common.{ap₂, sym, ◌∙◌, subst, arith}
 use Rattle.std.proofs.lemmas.List.{append_assoc, append-nil}
 use Rattle.digraph.specs.Graph.{Same}
-use Rattle.ls_base.specs.declared.Line.{Line}
 use Rattle.ls_sig.specs.declared.sigs.InitSig.{InitSig}
 use Rattle.ls_places.specs.declared.definition.Definition.{Definition}
 use Rattle.ls_places.specs.Search.{nth}
 use Rattle.init_rules.specs.Init.{Initialised, IsSignature}
-use Rattle.init_rules.specs.Files.{Let, Judged, Uninitialised, JudgedWithMore, OneJudgement, NotBoth}
+use Rattle.init_rules.specs.Files.{Let, Judged, JudgedWithMore, OneJudgement, NotBoth}
 
 same_bit : (x y : Bool) → (x ≡ true → y ≡ true) → (y ≡ true → x ≡ true) → x ≡ y
 same_bit true y f g = sym (f refl)

@@ -1,5 +1,10 @@
+pub mod Below
 pub mod Body
 pub mod Decided
 pub mod Files
 pub mod Flow
 pub mod Least
+pub mod NodeRows
+pub mod Reached
+pub mod Rows
+pub mod Signed

@@ -1,10 +1,11 @@
 -- Initialisation of a file: its definitions in order, each over the signatures of those before it.
-use Rattle.std.specs.Prelude.{◌≡◌, ℕ, Bool, true, false, List, [], ◌∷◌, ◌++◌, map, Option}
+use Rattle.std.specs.Prelude.{◌≡◌, ℕ, Bool, true, false, List, [], ◌∷◌, ◌++◌, Option}
 use Rattle.ls_base.specs.declared.Line.{Line}
 use Rattle.ls_ast.specs.declared.tree.DefOf.{DefOf}
 use Rattle.ls_ast.specs.declared.tree.DefOf.TheVariants as item
 use Rattle.ls_ast.specs.declared.tree.Mark.{Mark}
 use Rattle.ls_ast.specs.declared.tree.Mark.TheVariants as mark
+use Rattle.ls_ast.specs.declared.tree.Pat.{Pat}
 use Rattle.ls_sig.specs.declared.binder.Note.{Note}
 use Rattle.ls_sig.specs.declared.sigs.InitSig.{InitSig}
 use Rattle.ls_places.specs.declared.definition.Definition.{Definition}
@@ -16,8 +17,11 @@ abbrev pub is_data : Mark → Bool
 is_data mark.Data = true
 is_data _ = false
 
-abbrev pub data_marks : List Mark → List Bool
-data_marks = map {A = Mark} {B = Bool} is_data
+-- for each parameter whether it does
+abbrev pub data_marks : List Pat → List Mark → List Bool
+data_marks [] marks = []
+data_marks (p ∷ params) [] = false ∷ data_marks params []
+data_marks (p ∷ params) (m ∷ marks) = is_data m ∷ data_marks params marks
 
 -- a `let`, with what stands where in it
 pub record Let : Type 0 where
@@ -30,7 +34,7 @@ abbrev pub lets : (ℕ → Option ℕ) → List (DefOf Note) → List Let
 lets cases [] = []
 lets cases (item.Cases line name all ∷ rest) = lets cases rest
 lets cases (item.Let line node name params marks notes body ∷ rest) =
-    record { line = line; are_data = data_marks marks; body = definition_of cases params notes body } ∷ lets cases rest
+    record { line = line; are_data = data_marks params marks; body = definition_of cases params notes body } ∷ lets cases rest
 
 -- after earlier signatures these are those of the definitions
 abbrev pub Judged : List InitSig → List Let → List InitSig → Type 0

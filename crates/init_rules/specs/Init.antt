@@ -1,5 +1,5 @@
 -- Whether definitions are initialised, and their signatures.
-use Rattle.std.specs.Prelude.{◌≡◌, ℕ, Bool, true, List, [], ◌∷◌, ◌++◌, length, Some, ◌⊎◌}
+use Rattle.std.specs.Prelude.{◌≡◌, ℕ, Bool, true, List, length, Some, ◌⊎◌}
 use Rattle.ls_sig.specs.declared.sigs.InitSig.{InitSig}
 use Rattle.ls_places.specs.declared.definition.Definition.{Definition}
 use Rattle.ls_places.specs.Search.{nth}

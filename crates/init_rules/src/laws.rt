@@ -2,6 +2,7 @@
 
 ghost use Rattle.init_rules.specs.Files.{JudgedWithMore, OneJudgement, NotBoth};
 ghost use Rattle.init_rules.specs.Init.{InitialisedByFlow, MayByFlow, OwnByFlow, ReachesByFlow, SeveralByFlow};
+ghost use Rattle.init_rules.specs.Searches.{SearchesDecide, GraphIsThere, DefinitionStands};
 ghost use Rattle.init_rules.specs.Signatures.{InitialisedIs, MayIs, OwnIs, ReachesIs, LeastThere, LeastDecides, LeastResult, SeveralParameters};
 
 /// One assignment lies below all others, and decides whether there is one that asks for nothing.
@@ -35,4 +36,12 @@ pub fn files()
     ensures more { JudgedWithMore }
     ensures one { OneJudgement }
     ensures both { NotBoth }
+{}
+
+/// The rules of a definition as a graph of numbers, in the size of its text: two searches in it
+/// give the signature.
+pub fn searches_decide()
+    ensures decide { SearchesDecide }
+    ensures graph { GraphIsThere }
+    ensures stands { DefinitionStands }
 {}

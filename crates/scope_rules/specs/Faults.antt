@@ -358,12 +358,26 @@ abbrev pub different : Bool → Bool → Bool
 different true b = not b
 different false b = b
 
+-- two initial equations of one name, in one list
+abbrev pub same_start : ℕ × Place → ℕ × Place → Bool
+same_start a b = a.0 == b.0 && same_place a.1 b.1
+
+-- two branches of one constructor
+abbrev pub twice_claim : Place → Claim → Bool
+twice_claim p (branches cs) = repeated_case cs
+twice_claim p _ = false
+
+-- a form that is not combinatorial
+abbrev pub timed_claim : Place → Claim → Bool
+timed_claim p timed = true
+timed_claim p _ = false
+
 module _ {N : Type 0} (d : Judged N) where
   abbrev pub param_names : List ℕ
   param_names = joined (map names_of d.params)
 
   abbrev pub contents : Contents N
-  contents = contents_of N (length param_names) d.body
+  contents = contents_of N (length d.params) d.body
 
   abbrev pub sight : Sight
   sight = record { params = param_names; vars = variables contents.sites; defs = d.known.defs }
@@ -375,13 +389,6 @@ module _ {N : Type 0} (d : Judged N) where
 
   abbrev pub named_arms : List (Option ℕ) → List Case
   named_arms as' = arm_cases_named d.names as'
-
-  abbrev pub same_start : ℕ × Place → ℕ × Place → Bool
-  same_start a b = a.0 == b.0 && same_place a.1 b.1
-
-  abbrev pub twice_claim : Place → Claim → Bool
-  twice_claim p (branches cs) = repeated_case cs
-  twice_claim p _ = false
 
   abbrev pub twice : Bool
   twice = among (titles d.known.defs) d.title
@@ -462,10 +469,6 @@ module _ {N : Type 0} (d : Judged N) where
   mixed = list_any mixed_site contents.sites || (list_any mixed_start contents.starts || any_claim mixed_claim asks)
 
   -- 5. It is not combinatorial.
-
-  abbrev pub timed_claim : Place → Claim → Bool
-  timed_claim p timed = true
-  timed_claim p _ = false
 
   abbrev pub not_combinatorial : Bool
   not_combinatorial = not d.node && (not (list_all is_plain d.body.eqs) || any_claim timed_claim asks)

@@ -5,3 +5,4 @@ pub mod File
 pub mod Notes
 pub mod Resolved
 pub mod After
+pub mod Laws

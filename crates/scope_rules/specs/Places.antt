@@ -297,6 +297,6 @@ module _ (N : Type 0) where
   abbrev pub test_of : Test N → ATest
   test_of = fold-Test N Walk AnArm AGuard InArm AState ATest equation_step arm_step guard_step handler_step state_step test_step
 
-  -- What stands in a body. `first` is the number of the names in the parameters, and of the first clock name of the body.
+  -- What stands in a body. `first` is the number of the first clock name of the body, which is that of the parameters of the definition.
   abbrev pub contents_of : ℕ → BodyOf N → Contents N
   contents_of first b = read (reads b.result whole (around at_top)) (walk_all (map walk_of b.eqs) at_top (nothing_yet first))

@@ -3,6 +3,7 @@
 #![tactic(auto)]
 
 mod claims;
+pub mod laws;
 mod notes;
 mod places;
 

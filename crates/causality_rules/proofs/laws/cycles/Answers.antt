@@ -1,5 +1,6 @@
 use Rattle.causality_rules.proofs.Cycles.{cycle_gives_items}
 use Rattle.causality_rules.proofs.Files.{cyclic_excludes}
+use Rattle.causality_rules.proofs.Nested.{definition_nests}
 use Rattle.causality_rules.proofs.laws.cycles.Goals as goal
 
 pub returns-clause-items : goal.returns-clause-items
@@ -7,3 +8,6 @@ returns-clause-items c = λ d nested rows cycle. cycle_gives_items d nested rows
 
 pub returns-clause-excluded : goal.returns-clause-excluded
 returns-clause-excluded c = λ d rows cycle is. cyclic_excludes d rows cycle is
+
+pub returns-clause-nests : goal.returns-clause-nests
+returns-clause-nests c = definition_nests

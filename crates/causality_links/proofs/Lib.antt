@@ -1,0 +1,6 @@
+pub mod Causes
+pub mod ClockReads
+pub mod Files
+pub mod Link
+pub mod Lists
+pub mod Rules

@@ -1,0 +1,4 @@
+//! Laws of clocks that what compiles needs.
+#![tactic(auto)]
+
+pub mod laws;

@@ -1,0 +1,7 @@
+use Rattle.std.proofs.Common.{◌≡◌}
+use Rattle.kahn_exprs.specs.Body as spec
+use Rattle.kahn_model.specs.Table.{written_row}
+use Rattle.kahn_plain.proofs.equations.signal_row.Given as goal
+
+abbrev pub invariant-loop-i : goal.invariant-loop-i
+invariant-loop-i l = l.done ≡ written_row l.i 0 (spec.signal_row l.body l.x l.place)

@@ -1,0 +1,7 @@
+use Rattle.std.proofs.Common.{◌≡◌}
+use Rattle.std.specs.Prelude.{Some}
+use Rattle.kahn_model.specs.Table.{written_row}
+use Rattle.kahn_plain.proofs.node.truth_row.Given as goal
+
+abbrev pub invariant-loop-i : goal.invariant-loop-i
+invariant-loop-i l = l.done ≡ written_row l._i 0 (λ i. Some l.truth)

@@ -1,0 +1,5 @@
+pub mod Equations
+pub mod Turns
+pub mod Calls
+pub mod Alarms
+pub mod Node

@@ -1,0 +1,10 @@
+mod Again
+mod AsFound
+mod Functions
+mod InSight
+mod NotesMade
+mod OnTree
+mod OtherBodies
+mod OtherNotes
+mod WalkNotes
+mod WholeNotes

@@ -1,0 +1,5 @@
+use Rattle.std.proofs.Common.{◌≡◌, ◌++◌, drop}
+use Rattle.type_readings.proofs.expressions.copy_from.Given as goal
+
+abbrev pub invariant-loop-t : goal.invariant-loop-t
+invariant-loop-t l = l.done ++ drop l.t-index l.rest ≡ l.rest
