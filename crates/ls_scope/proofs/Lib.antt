@@ -1,0 +1,16 @@
+mod Blame
+mod Bound
+mod ClaimLaws
+mod Equations
+mod Layers
+mod Lists
+mod KeyLaws
+mod TwiceLaws
+mod Tables
+mod Signals
+mod Scenes
+mod UseLaws
+mod Outcomes
+mod NameLaws
+mod Renumbered
+mod EquationLaws

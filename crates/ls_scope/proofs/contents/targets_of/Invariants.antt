@@ -1,0 +1,6 @@
+use Rattle.std.proofs.Common.{◌≡◌, ◌+◌, ◌++◌, ◌∷◌, [], map, drop, take, length}
+use Rattle.scope_rules.specs.Places as spec
+use Rattle.ls_scope.proofs.contents.targets_of.Given as goal
+
+abbrev pub invariant-loop-state : goal.invariant-loop-state
+invariant-loop-state g l = l.done ++ spec.joined (map spec.targets_of (drop l.state-index l.all)) ≡ spec.joined (map spec.targets_of l.all)

@@ -1,0 +1,7 @@
+use Rattle.std.proofs.Common.{◌≡◌, ◌+◌, ◌++◌, ◌∷◌, [], map, drop, take, length}
+use Rattle.std.specs.List.{list_any, list_all}
+use Rattle.scope_rules.specs.Faults as spec
+use Rattle.ls_scope.proofs.twice.nested.Given as goal
+
+abbrev pub invariant-loop-s : goal.invariant-loop-s
+invariant-loop-s l = list_any (λ s. list_any (spec.above s) l.vars) (drop l.s-index l.vars) ≡ list_any (λ s. list_any (spec.above s) l.vars) l.vars

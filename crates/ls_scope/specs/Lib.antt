@@ -1,0 +1,13 @@
+pub mod Told
+pub mod Uses
+pub mod Keys
+pub mod Cases
+pub mod Sight
+pub mod Arms
+pub mod Last
+pub mod Starts
+pub mod Marks
+pub mod Mixed
+pub mod Unbound
+pub mod Judgement
+pub mod Answer
