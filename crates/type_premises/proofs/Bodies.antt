@@ -22,7 +22,11 @@ use Rattle.type_rules.specs.Bodies.{shape_of, parts_have, Asks, ArmAsks, CaseAsk
 use Rattle.type_rules.proofs.Agreeing.{each_both}
 use Rattle.type_rules.proofs.Placing.{meets_left, meets_right}
 use Rattle.scope_rules.specs.Places as P
-use Rattle.scope_rules.specs.Places.{Where, Way, Place, Stand, reads, tests, whole, stream}
+use Rattle.scope_rules.specs.Places.{Place, reads, tests, stream}
+use Rattle.scope_rules.specs.declared.claims.Stand.{Stand}
+use Rattle.scope_rules.specs.declared.claims.Stand.TheVariants.{Whole as whole}
+use Rattle.scope_rules.specs.declared.places.Way.{Way}
+use Rattle.scope_rules.specs.declared.places.Where.{Where}
 use Rattle.scope_rules.specs.declared.places.Way.TheVariants as way
 use Rattle.scope_rules.specs.Laws.{as_function}
 

@@ -1,7 +1,7 @@
 -- A parameter of a resolved definition that is marked as a function is one in each annotation.
 use Rattle.std.specs.Prelude.{◌≡◌, refl, ℕ, zero, suc, ◌+◌, ◌<◌, ◌&&◌, ◌||◌, Bool, true, false, List, [], ◌∷◌, ◌++◌, map, length, slice_get, Option, Some, None, if◌then◌else◌, nat_lt, ◌⊎◌}
 use Rattle.std.specs.List.{list_any}
-use Rattle.std.proofs.Common.{ap, ap₂, sym, ◌∙◌, subst, inl, inr}
+use Rattle.std.proofs.Common.{ap, ap₂, sym, ◌∙◌, subst, arith, inl, inr}
 use Rattle.std.proofs.lemmas.Bool.{lt-ltb}
 use Rattle.ls_ast.specs.declared.tree.BodyOf.{BodyOf}
 use Rattle.ls_ast.specs.declared.tree.Case.{Case}
@@ -40,8 +40,12 @@ use Rattle.type_rules.proofs.Placing.{meets_left, meets_right}
 use Rattle.scope_rules.specs.Places as P
 use Rattle.scope_rules.specs.Places.{Place, reads, tests}
 use Rattle.scope_rules.specs.Claims as C
-use Rattle.scope_rules.specs.Claims.{Claim, Earlier, claims, uses}
-use Rattle.scope_rules.specs.declared.claims.Asked as one
+use Rattle.scope_rules.specs.Claims.{claims, uses}
+use Rattle.scope_rules.specs.declared.claims.Claim.{Claim}
+use Rattle.scope_rules.specs.declared.claims.Earlier.{Earlier}
+use Rattle.scope_rules.specs.declared.claims.Claim.TheVariants.{Named as named}
+use Rattle.scope_rules.specs.declared.claims.Stand.{Stand}
+use Rattle.scope_rules.specs.declared.claims.Stand.TheVariants.{Asked as questioned}
 use Rattle.scope_rules.specs.Faults as F
 use Rattle.scope_rules.specs.Faults.{Judged, Sight, asked_by, binder_at, any_claim, mark_at}
 use Rattle.scope_rules.specs.Laws.{as_function, function_use, placed_exprs, whole_key, Noted}
@@ -62,11 +66,11 @@ use Rattle.type_premises.proofs.Marks.{marked}
 -- the notes of an expression with other notes
 
 module _ {N M : Type 0} (g : N → M) where
-  abbrev R : List M → List N → Type 0
-  R a b = a ≡ map g b
+  abbrev Twin : List M → List N → Type 0
+  Twin a b = a ≡ map g b
 
   abbrev Two : Type 0
-  Two = (a : List M) × (b : List N) × R a b
+  Two = (a : List M) × (b : List N) × Twin a b
 
   abbrev s : Form-F M (List M) (List M) → List M
   s = Or.form_notes M
@@ -91,7 +95,7 @@ module _ {N M : Type 0} (g : N → M) where
   choices_noted [] = refl
   choices_noted (p ∷ ps) = both p.1 (Or.choices_joined (map {A = Case × Two} {B = Case × List M} (λ c. (c.0, c.1.0)) ps), Or.choices_joined (map {A = Case × Two} {B = Case × List N} (λ c. (c.0, c.1.1)) ps), choices_noted ps)
 
-  layer : (y : Form-F N Two Two) → R (s (Re.lefts g s s' t t' R R y)) (t (Re.rights g s s' t t' R R y))
+  layer : (y : Form-F N Two Two) → Twin (s (Re.lefts g s s' t t' Twin Twin y)) (t (Re.rights g s s' t t' Twin Twin y))
   layer (Form-F.Leaf l) = refl
   layer (Form-F.Case c) = refl
   layer (Form-F.Var x) = refl
@@ -108,13 +112,13 @@ module _ {N M : Type 0} (g : N → M) where
   layer (Form-F.Call run x args (Some e)) = both (Or.joined (map {A = Two} {B = List M} (λ p. p.0) args), Or.joined (map {A = Two} {B = List N} (λ p. p.1) args), all_noted args) e
 
   notes_noted : (e : Expr N) → Or.notes M (Re.noted g e) ≡ map g (Or.notes N e)
-  notes_noted = Re.related g s s' t t' R R layer (λ n p. ap (λ z. g n ∷ z) p.2)
+  notes_noted = Re.related g s s' t t' Twin Twin layer (λ n p. ap (λ z. g n ∷ z) p.2)
 
 -- what scope asks of a body with other notes
 
 module _ {N M : Type 0} (g : N → M) where
   asked_same : (h : Sight) (r : P.Reading N) → asked_by h (O.told g r) ≡ asked_by h r
-  asked_same h (reads e s p) = ap (λ (c : P.Stand → List Claim). record { claims = c s; place = p }) (claims_same g h.defs (binder_at h p) e)
+  asked_same h (reads e s p) = ap (λ (c : Stand → List Claim). record { claims = c s; place = p }) (claims_same g h.defs (binder_at h p) e)
   asked_same h (tests x p) = refl
 
   all_asked : (h : Sight) (rs : List (P.Reading N)) → map (asked_by h) (map (O.told g) rs) ≡ map (asked_by h) rs
@@ -219,18 +223,18 @@ module _ (case_type : ℕ → Option TypeTerm) (sigs : List Sig) (d : Judged Pla
     abbrev said : Expr Placed → Reading ℕ
     said = B.said Placed ℕ bound_of place_of sigs case_type names marks vs types
 
-    facts : (e : Expr Placed) (s : P.Stand) (p : Place) → NotesAre h d.known (reads e s p) → Facts f k k (claims h.defs (binder_at h p) e) (said e)
+    facts : (e : Expr Placed) (s : Stand) (p : Place) → NotesAre h d.known (reads e s p) → Facts f k k (claims h.defs (binder_at h p) e) (said e)
     facts e s p n = expr_facts sigs case_type marks (λ j. B.is_signal_at Placed ℕ bound_of place_of sigs case_type names marks vs types (slice_get vs j)) types f k k known
         h.defs (head_at h.defs sigs heads) (binder_at h p) (R.case_of d.known) e n
 
-    reading_forced : (e : Expr Placed) (s : P.Stand) (p : Place) → list_any (function_use k) (claims h.defs (binder_at h p) e s) ≡ true
+    reading_forced : (e : Expr Placed) (s : Stand) (p : Place) → list_any (function_use k) (claims h.defs (binder_at h p) e s) ≡ true
         → Asked bound_of place_of sigs case_type names marks vs types f (reads e s p) → NotesAre h d.known (reads e s p) → is_data (f k) ≡ true → ⊥
     reading_forced e s p c a n x = either
         (λ q. either (λ m. q.0 m x) (λ m. either (λ m. q.2 m x) (λ m. q.3 m x) m) a.1)
         (λ q. differ (as_function s) a.0 q.0)
         (facts e s p n s c)
 
-    no_test : (x : ℕ) (p : Place) → list_any (function_use k) (asked_by h (tests {N = Placed} x p)).claims ≡ true → ⊥
+    no_test : (x : ℕ) (p : Place) → list_any (function_use k) (named (binder_at h p x) x questioned ∷ []) ≡ true → ⊥
     no_test x p c =
         let means = F.means_param k (binder_at h p x) in
         either (λ e. differ (means && false) (and_false means) e) (λ e. absurd (cc)) (or_cases (means && false) false c)
@@ -245,7 +249,7 @@ module _ (case_type : ℕ → Option TypeTerm) (sigs : List Sig) (d : Judged Pla
     forced (tests y p ∷ all) c a n x = either
         (λ c. no_test y p c)
         (λ c. forced all c a.1 n.1 x)
-        (or_cases (list_any (function_use k) (asked_by h (tests {N = Placed} y p)).claims) (any_claim (λ p. function_use k) (map (asked_by h) all)) c)
+        (or_cases (list_any (function_use k) (named (binder_at h p y) y questioned ∷ [])) (any_claim (λ p. function_use k) (map (asked_by h) all)) c)
 
   -- what a definition asks of its body
   of_body : (f : ℕ → TypeTerm) → Meets f (asks_of sigs case_type vs X) → Meets f (B.body_asks Placed ℕ bound_of place_of sigs case_type names marks vs types first X.body)
@@ -257,6 +261,7 @@ module _ (case_type : ℕ → Option TypeTerm) (sigs : List Sig) (d : Judged Pla
   pub are_functions : AreFunctionsIn case_type sigs definition
   are_functions f m k l e x =
       let known : types (binder.Param k) ≡ Some k = ap (λ (b : Bool). if b then Some k else None) (lt-ltb k (length names) l) in
-      let used = functions_used k (F.asks d) (marked (F.asks d) d.params 0 k e) in
+      let z : 0 + k ≡ k = omega arith in
+      let used = functions_used k (F.asks d) (subst (λ j. C.is_function (mark_at (F.asks d) j) ≡ true) z (marked (F.asks d) d.params 0 k e)) in
       forced f k known rs (subst (λ z. any_claim (λ p. function_use k) z ≡ true) asks_same used)
       (body_asked bound_of place_of sigs case_type names marks vs types f first X.body (of_body f m)) all_notes x

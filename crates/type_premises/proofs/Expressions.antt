@@ -26,10 +26,14 @@ use Rattle.type_rules.specs.Demands.{Meets}
 use Rattle.type_rules.specs.Numbers.{Placed, bound_of, place_of}
 use Rattle.type_rules.specs.Expressions as ex
 use Rattle.type_rules.specs.Expressions.{any, Reading, reading, streams, zip_fits, operand_types, result_type, literal_type, vars_from, condition, asked, name_reading, application, call_of}
-use Rattle.scope_rules.specs.Places as P
-use Rattle.scope_rules.specs.Places.{Stand, at, stream, before, applied}
+use Rattle.scope_rules.specs.Places.{stream}
+use Rattle.scope_rules.specs.declared.claims.Claim.{Claim}
+use Rattle.scope_rules.specs.declared.claims.Claim.TheVariants.{Constructor as constructor, Branches as branches, Timed as timed}
+use Rattle.scope_rules.specs.declared.claims.Earlier.{Earlier}
+use Rattle.scope_rules.specs.declared.claims.Stand.{Stand}
+use Rattle.scope_rules.specs.declared.claims.Stand.TheVariants.{At as at, Before as before, Asked as questioned, Applied as applied}
 use Rattle.scope_rules.specs.Claims as C
-use Rattle.scope_rules.specs.Claims.{Claims, Claim, Earlier, named, constructor, branches, timed, claims, form_claims, uses, uses_in, use_of, joined_uses, branch_uses, all_at, all_branches, proper, claim_of, case_claims, merge_claims, applied_by, head_by, head_def, if_any}
+use Rattle.scope_rules.specs.Claims.{Claims, claims, form_claims, uses, uses_in, use_of, joined_uses, branch_uses, all_at, all_branches, proper, claim_of, case_claims, merge_claims, applied_by, head_by, head_def, if_any}
 use Rattle.scope_rules.specs.Faults.{means_param}
 use Rattle.scope_rules.specs.Laws.{as_function, function_use}
 use Rattle.type_premises.specs.Premises.{FunctionTypes}
@@ -158,7 +162,7 @@ module _ (sigs : List Sig) (case_type : ℕ → Option TypeTerm) (marks : ℕ �
 
   -- what is asked of them
 
-  part_of : (e : Expr Placed) → F (claims defs bound e) (reading_of e) → Part f k u
+  abbrev part_of : (e : Expr Placed) → F (claims defs bound e) (reading_of e) → Part f k u
   part_of e h = (claims defs bound e, reading_of e, h)
 
   as_stream : (e : Expr Placed) → F (claims defs bound e) (reading_of e) → U (claims defs bound e stream) → Forces f k u (reading_of e).stream
@@ -275,57 +279,76 @@ module _ (sigs : List Sig) (case_type : ℕ → Option TypeTerm) (marks : ℕ �
   layer (Form-F.Case x) n r r' e =
       (all_four (place_of n) (ex.constructor_of bound_of place_of sigs case_type marks signals type_of (place_of n) (bound_of n) ∷ []) (λ s. constructor x.0 ∷ proper s) (λ s c. absurd (proper_none f k u s c)), ap rest e)
   layer (Form-F.Var x) n r r' e = (use_fact n x.0 (note_is n (bound x.0) r r' e), ap rest e)
-  layer (Form-F.Last x) n r r' e =
-      (all_four (place_of n) (ex.last_of bound_of place_of sigs case_type marks signals type_of (place_of n) (type_of (bound_of n)) ∷ []) (λ s. timed ∷ claim_of bound x.0 before ∷ proper s)
-          (λ s c. absurd (proper_none f k u s (skip f k u (claim_of bound x.0 before) (proper s) (no_use x.0 before refl) c))), ap rest e)
-  layer (Form-F.Asked x) n r r' e =
-      (all_four (place_of n) (asked (place_of n) (type_of (bound_of n))) (λ s. timed ∷ claim_of bound x.0 P.asked ∷ proper s)
-          (λ s c. absurd (proper_none f k u s (skip f k u (claim_of bound x.0 P.asked) (proper s) (no_use x.0 P.asked refl) c))), ap rest e)
+  layer (Form-F.Last x) n r r' e = (
+    all_four (place_of n) (ex.last_of bound_of place_of sigs case_type marks signals type_of (place_of n) (type_of (bound_of n)) ∷ []) (λ s. timed ∷ claim_of bound x.0 before ∷ proper s)
+        (λ s c. absurd (proper_none f k u s (skip f k u (claim_of bound x.0 before) (proper s) (no_use x.0 before refl) c))),
+    ap rest e,
+  )
+  layer (Form-F.Asked x) n r r' e = (
+    all_four (place_of n) (asked (place_of n) (type_of (bound_of n))) (λ s. timed ∷ claim_of bound x.0 questioned ∷ proper s)
+        (λ s c. absurd (proper_none f k u s (skip f k u (claim_of bound x.0 questioned) (proper s) (no_use x.0 questioned refl) c))),
+    ap rest e,
+  )
   layer (Form-F.Op op ps) n r r' e =
       let h = parts ps r r' (ap rest e) in
       let rs : List (Reading ℕ) = map reading_of (exprs ps) in
-      let ds = Fits ((place_of n, result_type (signature_of op)) ∷ zip_fits rs (operand_types (signature_of op))) ∷ streams rs in
-      (all_four (place_of n) (if length rs == length (operand_types (signature_of op)) then ds else Never ∷ []) (λ s. proper s ++ all_at stream (map (claims defs bound) (exprs ps)))
-          (λ s c. forces_if f k u (length rs == length (operand_types (signature_of op))) ds (Never ∷ [])
-          (forces_after f k u _ (streams rs) (as_streams (exprs ps) h.0 (proper_first f k u s (all_at stream (map (claims defs bound) (exprs ps))) c))) (λ m d. absurd m.0)), h.1)
+      let first : Demand ℕ = Fits ((place_of n, result_type (signature_of op)) ∷ zip_fits rs (operand_types (signature_of op))) in
+      let ds = first ∷ streams rs in (
+        all_four (place_of n) (if length rs == length (operand_types (signature_of op)) then ds else Never ∷ []) (λ s. proper s ++ all_at stream (map (claims defs bound) (exprs ps)))
+            (λ s c. forces_if f k u (length rs == length (operand_types (signature_of op))) ds (Never ∷ [])
+            (forces_after f k u first (streams rs) (as_streams (exprs ps) h.0 (proper_first f k u s (all_at stream (map (claims defs bound) (exprs ps))) c))) (λ m d. absurd m.0)),
+        h.1,
+      )
   layer (Form-F.Tuple ps) n r r' e =
       let h = parts ps r r' (ap rest e) in
       let rs : List (Reading ℕ) = map reading_of (exprs ps) in
-      let first : Demand ℕ = Fits ((place_of n, t.Tuple (vars_from 0 (length rs))) ∷ zip_fits rs (vars_from 0 (length rs))) in
-      (all_four (place_of n) (first ∷ streams rs) (λ s. proper s ++ all_at stream (map (claims defs bound) (exprs ps)))
-          (λ s c. forces_after f k u first (streams rs) (as_streams (exprs ps) h.0 (proper_first f k u s (all_at stream (map (claims defs bound) (exprs ps))) c))), h.1)
+      let first : Demand ℕ = Fits ((place_of n, t.Tuple (vars_from 0 (length rs))) ∷ zip_fits rs (vars_from 0 (length rs))) in (
+        all_four (place_of n) (first ∷ streams rs) (λ s. proper s ++ all_at stream (map (claims defs bound) (exprs ps)))
+            (λ s c. forces_after f k u first (streams rs) (as_streams (exprs ps) h.0 (proper_first f k u s (all_at stream (map (claims defs bound) (exprs ps))) c))),
+        h.1,
+      )
   layer (Form-F.Pre p) n r r' e =
       let h = p.1 r r' (ap rest e) in
-      let first : Demand ℕ = Fits ((place_of n, any) ∷ ((reading_of p.0).ty, any) ∷ []) in
-      (all_four (place_of n) (first ∷ (reading_of p.0).stream) (λ s. timed ∷ proper s ++ claims defs bound p.0 stream)
-          (λ s c. forces_after f k u first (reading_of p.0).stream (as_stream p.0 h.0 (proper_first f k u s (claims defs bound p.0 stream) c))), h.1)
+      let first : Demand ℕ = Fits ((place_of n, any) ∷ ((reading_of p.0).ty, any) ∷ []) in (
+        all_four (place_of n) (first ∷ (reading_of p.0).stream) (λ s. timed ∷ proper s ++ claims defs bound p.0 stream)
+            (λ s c. forces_after f k u first (reading_of p.0).stream (as_stream p.0 h.0 (proper_first f k u s (claims defs bound p.0 stream) c))),
+        h.1,
+      )
   layer (Form-F.Fby p q) n r r' e =
       let h = p.1 _ _ (regroup used (Or.notes Placed p.0) (Or.notes Placed q.0) (uses bound cases p.0) (uses bound cases q.0) r r' (ap rest e)) in
       let g = q.1 r r' h.1 in
-      let first : Demand ℕ = Fits ((place_of n, any) ∷ ((reading_of p.0).ty, any) ∷ ((reading_of q.0).ty, any) ∷ []) in
-      (all_four (place_of n) (first ∷ (reading_of p.0).stream ++ (reading_of q.0).stream) (λ s. timed ∷ proper s ++ (claims defs bound p.0 stream ++ claims defs bound q.0 stream))
-          (λ s c. forces_after f k u first ((reading_of p.0).stream ++ (reading_of q.0).stream) (as_two p.0 q.0 h.0 g.0 (proper_first f k u s (claims defs bound p.0 stream ++ claims defs bound q.0 stream) c))), g.1)
+      let first : Demand ℕ = Fits ((place_of n, any) ∷ ((reading_of p.0).ty, any) ∷ ((reading_of q.0).ty, any) ∷ []) in (
+        all_four (place_of n) (first ∷ (reading_of p.0).stream ++ (reading_of q.0).stream) (λ s. timed ∷ proper s ++ (claims defs bound p.0 stream ++ claims defs bound q.0 stream))
+            (λ s c. forces_after f k u first ((reading_of p.0).stream ++ (reading_of q.0).stream) (as_two p.0 q.0 h.0 g.0 (proper_first f k u s (claims defs bound p.0 stream ++ claims defs bound q.0 stream) c))),
+        g.1,
+      )
   layer (Form-F.Init p q) n r r' e =
       let h = p.1 _ _ (regroup used (Or.notes Placed p.0) (Or.notes Placed q.0) (uses bound cases p.0) (uses bound cases q.0) r r' (ap rest e)) in
       let g = q.1 r r' h.1 in
-      let first : Demand ℕ = Fits ((place_of n, any) ∷ ((reading_of p.0).ty, any) ∷ ((reading_of q.0).ty, any) ∷ []) in
-      (all_four (place_of n) (first ∷ (reading_of p.0).stream ++ (reading_of q.0).stream) (λ s. timed ∷ proper s ++ (claims defs bound p.0 stream ++ claims defs bound q.0 stream))
-          (λ s c. forces_after f k u first ((reading_of p.0).stream ++ (reading_of q.0).stream) (as_two p.0 q.0 h.0 g.0 (proper_first f k u s (claims defs bound p.0 stream ++ claims defs bound q.0 stream) c))), g.1)
+      let first : Demand ℕ = Fits ((place_of n, any) ∷ ((reading_of p.0).ty, any) ∷ ((reading_of q.0).ty, any) ∷ []) in (
+        all_four (place_of n) (first ∷ (reading_of p.0).stream ++ (reading_of q.0).stream) (λ s. timed ∷ proper s ++ (claims defs bound p.0 stream ++ claims defs bound q.0 stream))
+            (λ s c. forces_after f k u first ((reading_of p.0).stream ++ (reading_of q.0).stream) (as_two p.0 q.0 h.0 g.0 (proper_first f k u s (claims defs bound p.0 stream ++ claims defs bound q.0 stream) c))),
+        g.1,
+      )
   layer (Form-F.When p x c') n r r' e =
       let h = p.1 r r' (ap rest e) in
       let first : Demand ℕ = condition (type_of (bound_of n)) (ex.type_of_case bound_of place_of sigs case_type marks signals type_of c') ((place_of n, any) ∷ ((reading_of p.0).ty, any) ∷ []) in
-      let cs : Claims = λ s. proper s ++ claims defs bound p.0 stream in
-      (all_four (place_of n) (first ∷ (reading_of p.0).stream) (λ s. timed ∷ claim_of bound x.0 (at mark.Clock) ∷ case_claims c' ++ cs s)
-          (λ s c. forces_after f k u first (reading_of p.0).stream (as_stream p.0 h.0 (proper_first f k u s (claims defs bound p.0 stream)
-          (case_first c' (cs s) (skip f k u (claim_of bound x.0 (at mark.Clock)) (case_claims c' ++ cs s) (no_use x.0 (at mark.Clock) refl) c))))), h.1)
+      let cs : Claims = λ s. proper s ++ claims defs bound p.0 stream in (
+        all_four (place_of n) (first ∷ (reading_of p.0).stream) (λ s. timed ∷ claim_of bound x.0 (at mark.Clock) ∷ case_claims c' ++ cs s)
+            (λ s c. forces_after f k u first (reading_of p.0).stream (as_stream p.0 h.0 (proper_first f k u s (claims defs bound p.0 stream)
+            (case_first c' (cs s) (skip f k u (claim_of bound x.0 (at mark.Clock)) (case_claims c' ++ cs s) (no_use x.0 (at mark.Clock) refl) c))))),
+        h.1,
+      )
   layer (Form-F.Merge x ps) n r r' e =
       let h = choice_parts ps r r' (ap rest e) in
       let first : Demand ℕ = Fits ((place_of n, any) ∷ ex.branch_types bound_of place_of sigs case_type marks signals type_of (reading_choices (choices ps))) in
       let ds : List (Demand ℕ) = ex.branches bound_of place_of sigs case_type marks signals type_of (type_of (bound_of n)) (reading_choices (choices ps)) in
-      let bs : List (Case × Claims) = claim_choices (choices ps) in
-      (all_four (place_of n) (first ∷ ds) (λ s. merge_claims (claim_of bound x.0 (at mark.Clock)) (C.cases_of bs) bs s)
-          (λ s c. forces_after f k u first ds (as_branches (type_of (bound_of n)) (choices ps) h.0 (proper_first f k u s (all_branches bs)
-          (skip f k u (claim_of bound x.0 (at mark.Clock)) (branches (C.cases_of bs) ∷ proper s ++ all_branches bs) (no_use x.0 (at mark.Clock) refl) c)))), h.1)
+      let bs : List (Case × Claims) = claim_choices (choices ps) in (
+        all_four (place_of n) (first ∷ ds) (λ s. merge_claims (claim_of bound x.0 (at mark.Clock)) (C.cases_of bs) bs s)
+            (λ s c. forces_after f k u first ds (as_branches (type_of (bound_of n)) (choices ps) h.0 (proper_first f k u s (all_branches bs)
+            (skip f k u (claim_of bound x.0 (at mark.Clock)) (branches (C.cases_of bs) ∷ proper s ++ all_branches bs) (no_use x.0 (at mark.Clock) refl) c)))),
+        h.1,
+      )
   layer (Form-F.Call run x ps None) n r r' e =
       let h = parts ps _ _ (regroup used (Or.joined (map (Or.notes Placed) (exprs ps))) [] (joined_uses (map (uses bound cases) (exprs ps))) [] r r' (ap rest e)) in
       (call_none n run x.0 (exprs ps) h.0 (ap (λ l. (first_or (used n) l).bound) e), h.1)

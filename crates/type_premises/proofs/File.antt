@@ -1,5 +1,5 @@
 -- The definitions of a file, one after the other.
-use Rattle.std.specs.Prelude.{◌≡◌, refl, ℕ, suc, ◌+◌, Bool, true, List, [], ◌∷◌, ◌++◌, map, length, Option}
+use Rattle.std.specs.Prelude.{◌≡◌, refl, ℕ, suc, ◌+◌, Bool, true, List, [], ◌∷◌, ◌++◌, map, length, Option, option_map}
 use Rattle.std.proofs.Common.{ap, ap₂, sym, ◌∙◌, subst, arith, append_assoc}
 use Rattle.ls_base.specs.declared.Line.{Line}
 use Rattle.ls_base.specs.declared.Name.{Name}
@@ -9,6 +9,7 @@ use Rattle.ls_ast.specs.declared.tree.FileOf.{FileOf}
 use Rattle.ls_ast.specs.declared.tree.Pat.{Pat}
 use Rattle.ls_ast.specs.declared.tree.Plain.{Plain}
 use Rattle.ls_terms.specs.declared.types.TypeTerm.{TypeTerm}
+use Rattle.ls_terms.specs.declared.types.TypeTerm.TheVariants as t
 use Rattle.ls_sig.specs.declared.binder.TypeNote.{TypeNote}
 use Rattle.ls_sig.specs.declared.binder.Use.{Use}
 use Rattle.ls_sig.specs.declared.env.Env.{Env}
@@ -17,6 +18,7 @@ use Rattle.tree_notes.specs.Each.{Each}
 use Rattle.type_rules.specs.Demands.{Meets}
 use Rattle.type_rules.specs.Schemes.{is_data}
 use Rattle.type_rules.specs.Bodies as B
+use Rattle.type_rules.specs.Bodies.{index_of}
 use Rattle.type_rules.specs.Definitions.{Definition, variables, params_named, vars_named}
 use Rattle.type_rules.specs.Files.{LetOf, Judged, Typed, annotation, appearing, lets, note_types, placed, renumbered, signature}
 use Rattle.type_rules.specs.Laws.{AreFunctionsIn}
@@ -25,7 +27,8 @@ use Rattle.type_rules.specs.Principal.{IsPrincipal, asks_of, names_here, marks_h
 use Rattle.type_rules.proofs.Placing.{meets_left, meets_right}
 use Rattle.type_rules.proofs.Principal.{obeys_is}
 use Rattle.scope_rules.specs.After as After
-use Rattle.scope_rules.specs.Claims.{Earlier, Known}
+use Rattle.scope_rules.specs.Claims.{Known}
+use Rattle.scope_rules.specs.declared.claims.Earlier.{Earlier}
 use Rattle.scope_rules.specs.Faults as F
 use Rattle.scope_rules.specs.File.{known_after}
 use Rattle.scope_rules.specs.Resolved.{resolved_defs, resolved_body, no_uses}
@@ -68,7 +71,9 @@ module _ (case_type : ℕ → Option TypeTerm) (limit : ℕ) where
       let heads = params_named sigs case_type marks (λ k. k) names 0 ++ vars_named sigs case_type (λ k. k) vs (length names) in
       let firsts = B.params_ask Placed ℕ bound_of place_of sigs case_type names marks vs types x.params x.marks x.notes 0 in
       let inside = B.body_asks Placed ℕ bound_of place_of sigs case_type names marks vs types (length x.params) x.body in
-      param_types sigs case_type names marks vs (length names) (length vs) f _ x.params x.marks x.notes 0 (meets_right f heads firsts (meets_left f (heads ++ firsts) inside m))
+      let a = annotation case_type sigs d f in
+      let order = appearing (note_types a.notes ++ a.body.result.note.ty ∷ []) in
+      param_types sigs case_type names marks vs (length names) (length vs) f (λ v. option_map (λ k. t.Var (0 + k)) (index_of v order 0)) x.params x.marks x.notes 0 (meets_right f heads firsts (meets_left f (heads ++ firsts) inside m))
       (λ i l e q. let z : 0 + i ≡ i = omega arith in functions f m i l e (subst (λ j. is_data (f j) ≡ true) z q))
 
   -- an annotated definition

@@ -134,8 +134,9 @@ module _ (asks : List Asked) where
   pub marked : (ps : List Pat) (k i : ℕ) → Marked k (slice_get (name_marks ps (marks_from asks ps k)) i) i
   marked [] k zero e = absurd (cc)
   marked [] k (suc i) e = absurd (cc)
-  marked (p ∷ ps) k i =
+  marked (p ∷ ps) k i e =
       let n = k + length (P.names_of p) in
       either_place (mark_from asks (P.is_name p) k) (FP.names_of p) (name_marks ps (marks_from asks ps n)) i (Marked k)
       (of_name (P.is_name p) k (length (FP.names_of p)) (one_name p))
       (λ j e. let l = ap length (names_same p) in let z : n + j ≡ k + (length (FP.names_of p) + j) = omega (arith, l) in subst (λ x. is_function (mark_at asks x) ≡ true) z (marked ps n j e))
+      e

@@ -71,31 +71,31 @@ module _ (sigs : List Sig) (case_type : ℕ → Option TypeTerm) (names : List �
   NoData ps ms k = (i : ℕ) → i < length (param_names ps) → is_functional (mark_in (slice_get (name_marks ps ms) i)) ≡ true → is_data (f (k + i)) ≡ true → ⊥
 
   here : (p : Pat) (ps : List Pat) (m : Mark) (ms : List Mark) (k u : ℕ) → NoData (p ∷ ps) (m ∷ ms) k → is_functional m ≡ true → Whole (shape_of p).alone k u → is_data (f u) ≡ true → ⊥
-  here p ps m ms k u no e w d =
+  here p ps m ms k u none e w d =
       let one = alone_name p w.name w.is in
       let l = length-append (FP.names_of p) (param_names ps) in
       let z : k ≡ k + 0 = omega arith in
-      no 0 (omega (arith, one, l)) (ap (λ o. is_functional (mark_in o)) (mark_first m (FP.names_of p) (name_marks ps ms) one) ∙ e) (subst (λ j. is_data (f j) ≡ true) z (ap is_data w.same ∙ d))
+      none 0 (omega (arith, one, l)) (ap (λ o. is_functional (mark_in o)) (mark_first m (FP.names_of p) (name_marks ps ms) one) ∙ e) (subst (λ j. is_data (f j) ≡ true) z (ap is_data w.same ∙ d))
 
   there : (p : Pat) (ps : List Pat) (m : Mark) (ms : List Mark) (k : ℕ) → NoData (p ∷ ps) (m ∷ ms) k → NoData ps ms (k + length ((shape_of p).names 0))
-  there p ps m ms k no i l e d =
+  there p ps m ms k none i l e d =
       let n = length (FP.names_of p) in
       let a = length-append (FP.names_of p) (param_names ps) in
       let b = names_long p 0 in
       let z : (k + length ((shape_of p).names 0)) + i ≡ k + (n + i) = omega (arith, b) in
-      no (n + i) (omega (arith, a, l)) (ap (λ o. is_functional (mark_in o)) (marks_later m (FP.names_of p) (name_marks ps ms) i) ∙ e) (subst (λ j. is_data (f j) ≡ true) z d)
+      none (n + i) (omega (arith, a, l)) (ap (λ o. is_functional (mark_in o)) (marks_later m (FP.names_of p) (name_marks ps ms) i) ∙ e) (subst (λ j. is_data (f j) ≡ true) z d)
 
   -- the parameters of a definition, with a type for each variable of theirs
   pub param_types : (by : ℕ → Option TypeTerm) (ps : List Pat) (ms : List Mark) (ns : List Placed) (k : ℕ) → Meets f (params_ask ps ms ns k) → NoData ps ms k
       → FunctionTypes ms (map (apply by) (note_types (map (typed_by f) ns)))
-  param_types by [] [] ns k m no = tt
-  param_types by (p ∷ ps) [] ns k m no = tt
-  param_types by [] (x ∷ ms) [] k m no = absurd m.0
-  param_types by [] (x ∷ ms) (n ∷ ns) k m no = absurd m.0
-  param_types by (p ∷ ps) (x ∷ ms) [] k m no = absurd m.0
-  param_types by (p ∷ ps) (x ∷ ms) (n ∷ ns) k m no =
+  param_types by [] [] ns k m none = tt
+  param_types by (p ∷ ps) [] ns k m none = tt
+  param_types by [] (x ∷ ms) [] k m none = absurd m.0
+  param_types by [] (x ∷ ms) (n ∷ ns) k m none = absurd m.0
+  param_types by (p ∷ ps) (x ∷ ms) [] k m none = absurd m.0
+  param_types by (p ∷ ps) (x ∷ ms) (n ∷ ns) k m none =
       let ds = param_asks x (place_of n) k (shape_of p) in
       let es = params_ask ps ms ns (k + length ((shape_of p).names 0)) in (
-        (λ e. not_true (is_data (apply by (f (place_of n)))) (λ d. here p ps x ms k (place_of n) no e (whole x p k (place_of n) e (meets_left f ds es m)) (data_back by (f (place_of n)) d).0)),
-        param_types by ps ms ns (k + length ((shape_of p).names 0)) (meets_right f ds es m) (there p ps x ms k no),
+        (λ e. not_true (is_data (apply by (f (place_of n)))) (λ d. here p ps x ms k (place_of n) none e (whole x p k (place_of n) e (meets_left f ds es m)) (data_back by (f (place_of n)) d).0)),
+        param_types by ps ms ns (k + length ((shape_of p).names 0)) (meets_right f ds es m) (there p ps x ms k none),
       )

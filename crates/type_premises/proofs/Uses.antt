@@ -9,6 +9,7 @@ use Rattle.ls_ast.specs.declared.tree.Mark.TheVariants as mark
 use Rattle.ls_terms.specs.declared.types.Kind.{Kind}
 use Rattle.ls_terms.specs.declared.types.Kind.TheVariants.{Comb}
 use Rattle.ls_terms.specs.declared.types.TypeTerm.{TypeTerm}
+use Rattle.ls_terms.specs.declared.types.TypeTerm.TheVariants as t
 use Rattle.ls_sig.specs.Notes.{is_signal}
 use Rattle.ls_sig.specs.declared.sigs.Sig.{Sig}
 use Rattle.tree_notes.specs.Each.{Each}
@@ -18,10 +19,14 @@ use Rattle.type_rules.specs.declared.demand.Demand.TheVariants.{Fits, Equal, Fun
 use Rattle.type_rules.specs.Demands.{map_fits, Fit, Holds, Meets}
 use Rattle.type_rules.specs.Expressions.{any, Reading, reading, streams, types_of, zip_fits, given, applied, restarts, is_bare, is_functional, is_passed, rest_of, called, partial, call_of, application, kind_of, same_kind, none_of}
 use Rattle.type_rules.proofs.Placing.{put_not, arrow_data, meets_left, meets_right}
-use Rattle.scope_rules.specs.Places as P
-use Rattle.scope_rules.specs.Places.{Stand, at, loose, stream}
+use Rattle.scope_rules.specs.Places.{stream}
+use Rattle.scope_rules.specs.declared.claims.Claim.{Claim}
+use Rattle.scope_rules.specs.declared.claims.Claim.TheVariants.{Stray as stray, Answered as answered, Timed as timed}
+use Rattle.scope_rules.specs.declared.claims.Earlier.{Earlier}
+use Rattle.scope_rules.specs.declared.claims.Stand.{Stand}
+use Rattle.scope_rules.specs.declared.claims.Stand.TheVariants.{At as at, Loose as loose}
 use Rattle.scope_rules.specs.Claims as C
-use Rattle.scope_rules.specs.Claims.{Claims, Claim, stray, answered, timed, Earlier, at_marks, all_at, if_any, stand_for, proper, claim_if, is_function, def_claims, loose_claims, given_some, passable}
+use Rattle.scope_rules.specs.Claims.{Claims, at_marks, all_at, if_any, stand_for, proper, claim_if, is_function, def_claims, loose_claims, given_some, passable}
 use Rattle.scope_rules.specs.Laws.{as_function, function_use}
 use Rattle.type_premises.specs.Premises.{FunctionTypes}
 use Rattle.type_premises.proofs.Lists.{either, differ, any_split, or_cases}
@@ -151,7 +156,7 @@ module _ (f : ℕ → TypeTerm) (k u : ℕ) where
       let e : suc i + 1 ≡ suc (i + 1) = omega arith in
       ap (λ z. c (stand_for (slice_get ms i)) ++ at_marks (m ∷ ms) z cs) e ∙ ap (λ z. c (stand_for (slice_get ms i)) ++ z) (later_marks m ms (i + 1) cs)
 
-  module _ (σ : ℕ → TypeTerm) (data : (x : ℕ) → is_data (σ x) ≡ true) where
+  module _ (σ : ℕ → TypeTerm) (known : (x : ℕ) → is_data (σ x) ≡ true) where
     abbrev Fitting : List Part → List TypeTerm → Type 0
     Fitting ps ts = Fit σ (map_fits f (zip_fits (readings_in ps) ts))
 
@@ -176,7 +181,7 @@ module _ (f : ℕ → TypeTerm) (k u : ℕ) where
         (split (p.0 (at m)) (at_marks (m ∷ ms) 1 (claims_in ps)) h)
     given_forced (m ∷ ms) (s ∷ ts) (p ∷ ps) t h fit = either
         (λ c. forces_left (if is_bare m then p.1.bare else p.1.stream) (given ms (readings_in ps))
-        (first_given m p (λ i q e. put_not σ data s (t.0 (functional_is m i)) (sym (ap is_data fit.0) ∙ ap is_data q ∙ e)) c))
+        (first_given m p (λ i q e. put_not σ known s (t.0 (functional_is m i)) (sym (ap is_data fit.0) ∙ ap is_data q ∙ e)) c))
         (λ c. forces_right (if is_bare m then p.1.bare else p.1.stream) (given ms (readings_in ps)) (given_forced ms ts ps t.1 (subst (λ z. Used z) (later_marks m ms 0 (claims_in ps)) c) fit.1))
         (split (p.0 (at m)) (at_marks (m ∷ ms) 1 (claims_in ps)) h)
 
@@ -190,7 +195,7 @@ module _ (f : ℕ → TypeTerm) (k u : ℕ) where
 
   restarts_forced : (o : Option Part) → Used (if_any (claims_if o)) → Forces (restarts (reading_if o))
   restarts_forced None h = absurd (cc)
-  restarts_forced (Some p) h = forces_after _ p.1.stream (four_at p stream refl h).0
+  restarts_forced (Some p) h = forces_after (Fits ((p.1.ty, t.Bool) ∷ [])) p.1.stream (four_at p stream refl h).0
 
   -- the arguments of a call, and its restart
   abbrev Called : List Mark → List Part → Option Part → Type 0
