@@ -1,6 +1,6 @@
 -- Each expression of a body that scope sees is asked, in one of the ways that it may stand, for its types.
-use Rattle.std.specs.Prelude.{◌≡◌, refl, ℕ, suc, ◌+◌, Bool, true, false, List, [], ◌∷◌, ◌++◌, map, length, slice_get, Option, Some, None, option_map, if◌then◌else◌, ◌⊎◌}
-use Rattle.std.proofs.Common.{ap, sym, ◌∙◌, subst, inl, inr}
+use Rattle.std.specs.Prelude.{◌≡◌, refl, ℕ, suc, ◌+◌, Bool, true, false, List, [], ◌∷◌, ◌++◌, map, length, Option, Some, None, option_map, if◌then◌else◌, ◌⊎◌}
+use Rattle.std.proofs.Common.{sym, subst, inl, inr}
 use Rattle.ls_ast.specs.declared.tree.Mark.{Mark}
 use Rattle.ls_ast.specs.declared.tree.Pat.{Pat}
 use Rattle.ls_ast.specs.declared.tree.BodyOf.{BodyOf}

@@ -1,9 +1,8 @@
 -- A parameter of a resolved definition that is marked as a function is one in each annotation.
-use Rattle.std.specs.Prelude.{◌≡◌, refl, ℕ, zero, suc, ◌+◌, ◌<◌, ◌&&◌, ◌||◌, Bool, true, false, List, [], ◌∷◌, ◌++◌, map, length, slice_get, Option, Some, None, if◌then◌else◌, nat_lt, ◌⊎◌}
+use Rattle.std.specs.Prelude.{◌≡◌, refl, ℕ, zero, suc, ◌+◌, ◌&&◌, Bool, true, false, List, [], ◌∷◌, ◌++◌, map, length, slice_get, Option, Some, None, if◌then◌else◌}
 use Rattle.std.specs.List.{list_any}
-use Rattle.std.proofs.Common.{ap, ap₂, sym, ◌∙◌, subst, arith, inl, inr}
+use Rattle.std.proofs.Common.{ap, ap₂, sym, ◌∙◌, subst, arith}
 use Rattle.std.proofs.lemmas.Bool.{lt-ltb}
-use Rattle.ls_ast.specs.declared.tree.BodyOf.{BodyOf}
 use Rattle.ls_ast.specs.declared.tree.Case.{Case}
 use Rattle.ls_ast.specs.declared.tree.Expr.{Expr, Expr-F}
 use Rattle.ls_ast.specs.declared.tree.Form.TheOpen.{Form-F}
@@ -28,15 +27,14 @@ use Rattle.tree_notes.proofs.Refold as Re
 use Rattle.tree_notes.proofs.Same.{body_same}
 use Rattle.type_rules.specs.Schemes.{is_data}
 use Rattle.type_rules.specs.Demands.{Meets}
-use Rattle.type_rules.specs.declared.demand.Demand.{Demand}
 use Rattle.type_rules.specs.Bodies as B
 use Rattle.type_rules.specs.Definitions.{Definition, variables, params_named, vars_named}
-use Rattle.type_rules.specs.Expressions.{Reading, is_functional}
+use Rattle.type_rules.specs.Expressions.{Reading}
 use Rattle.type_rules.specs.Files.{placed, names_count}
 use Rattle.type_rules.specs.Laws.{AreFunctionsIn}
 use Rattle.type_rules.specs.Numbers.{Placed, bound_of, place_of, place_step, place_next, placer}
 use Rattle.type_rules.specs.Principal.{asks_of, names_here, marks_here, types_here}
-use Rattle.type_rules.proofs.Placing.{meets_left, meets_right}
+use Rattle.type_rules.proofs.Placing.{meets_right}
 use Rattle.scope_rules.specs.Places as P
 use Rattle.scope_rules.specs.Places.{Place, reads, tests}
 use Rattle.scope_rules.specs.Claims as C
@@ -56,9 +54,8 @@ use Rattle.scope_rules.proofs.Functions.{functions_used}
 use Rattle.scope_rules.proofs.OtherBodies as O
 use Rattle.scope_rules.proofs.OtherNotes.{claims_same, uses_same}
 use Rattle.scope_rules.proofs.WholeNotes.{notes_in_sight}
-use Rattle.type_premises.specs.Premises.{FunctionTypes}
 use Rattle.type_premises.proofs.Lists.{either, differ, or_cases, and_false, map_on, each_weaker}
-use Rattle.type_premises.proofs.Uses.{Four, Facts}
+use Rattle.type_premises.proofs.Uses.{Facts}
 use Rattle.type_premises.proofs.Expressions.{SameHead, expr_facts}
 use Rattle.type_premises.proofs.Bodies.{Asked, body_asked}
 use Rattle.type_premises.proofs.Marks.{marked}

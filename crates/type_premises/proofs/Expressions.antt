@@ -1,14 +1,14 @@
 -- Whether a parameter is a function in an expression, by induction over the expression.
-use Rattle.std.specs.Prelude.{◌≡◌, refl, ℕ, zero, suc, ◌+◌, ◌==◌, ◌&&◌, ◌||◌, not, Bool, true, false, List, [], ◌∷◌, ◌++◌, map, length, slice_get, Option, Some, None, is_some, if◌then◌else◌, ◌⊎◌}
+use Rattle.std.specs.Prelude.{◌≡◌, refl, ℕ, ◌==◌, ◌&&◌, Bool, true, false, List, [], ◌∷◌, ◌++◌, map, length, slice_get, Option, Some, None, if◌then◌else◌}
 use Rattle.std.specs.List.{list_any}
-use Rattle.std.proofs.Common.{ap, ap₂, sym, ◌∙◌, subst, inl, inr}
+use Rattle.std.proofs.Common.{ap, sym, ◌∙◌, subst, inl, inr}
 use Rattle.std.proofs.lemmas.Bool.{and_parts, eqb-true}
 use Rattle.ls_ast.specs.declared.tree.Case.{Case}
 use Rattle.ls_ast.specs.declared.tree.Case.TheVariants as case
 use Rattle.ls_ast.specs.declared.tree.Mark.{Mark}
 use Rattle.ls_ast.specs.declared.tree.Mark.TheVariants as mark
-use Rattle.ls_ast.specs.declared.tree.Expr.{Expr, Expr-F, fold-Expr, fold-roll-Expr, ind-Expr, roll-Expr}
-use Rattle.ls_ast.specs.declared.tree.Form.{Form, fold-Form, fold-roll-Form, map-Form, roll-Form}
+use Rattle.ls_ast.specs.declared.tree.Expr.{Expr, Expr-F, fold-roll-Expr, ind-Expr, roll-Expr}
+use Rattle.ls_ast.specs.declared.tree.Form.{Form, fold-roll-Form, map-Form, roll-Form}
 use Rattle.ls_ast.specs.declared.tree.Form.TheOpen.{Form-F}
 use Rattle.ls_ops.specs.Signature.{signature_of}
 use Rattle.ls_terms.specs.declared.types.TypeTerm.{TypeTerm}
@@ -19,10 +19,8 @@ use Rattle.ls_sig.specs.declared.binder.Use.{Use}
 use Rattle.ls_sig.specs.declared.sigs.Sig.{Sig}
 use Rattle.tree_notes.specs.Each.{Each}
 use Rattle.tree_notes.specs.Order as Or
-use Rattle.type_rules.specs.Schemes.{is_data}
 use Rattle.type_rules.specs.declared.demand.Demand.{Demand}
-use Rattle.type_rules.specs.declared.demand.Demand.TheVariants.{Fits, Equal, Function, Never}
-use Rattle.type_rules.specs.Demands.{Meets}
+use Rattle.type_rules.specs.declared.demand.Demand.TheVariants.{Fits, Never}
 use Rattle.type_rules.specs.Numbers.{Placed, bound_of, place_of}
 use Rattle.type_rules.specs.Expressions as ex
 use Rattle.type_rules.specs.Expressions.{any, Reading, reading, streams, zip_fits, operand_types, result_type, literal_type, vars_from, condition, asked, name_reading, application, call_of}
@@ -37,7 +35,7 @@ use Rattle.scope_rules.specs.Claims.{Claims, claims, form_claims, uses, uses_in,
 use Rattle.scope_rules.specs.Faults.{means_param}
 use Rattle.scope_rules.specs.Laws.{as_function, function_use}
 use Rattle.type_premises.specs.Premises.{FunctionTypes}
-use Rattle.type_premises.proofs.Lists.{either, differ, or_cases, and_false, rest, first_or, map_on, regroup}
+use Rattle.type_premises.proofs.Lists.{either, or_cases, and_false, rest, first_or, regroup}
 use Rattle.type_premises.proofs.Uses.{Forces, forces_left, forces_right, forces_after, forces_if, Four, four, never, Used, split, skip, proper_none, proper_first, Same, Facts, Part, claims_in, readings_in, four_at, streams_forced, claims_if, reading_if, def_forced, application_forced, head_forced}
 
 abbrev used : Placed → Use
@@ -58,9 +56,6 @@ means_is k (binder.Case e j) h = absurd (cc)
 
 module _ (sigs : List Sig) (case_type : ℕ → Option TypeTerm) (marks : ℕ → Mark) (signals : ℕ → Bool) (type_of : Binder → Option ℕ) (f : ℕ → TypeTerm) (k u : ℕ) (known : type_of (binder.Param k) ≡ Some u)
     (defs : List Earlier) (heads : (j : ℕ) → SameHead (slice_get defs j) (slice_get sigs j)) (bound cases : ℕ → Binder) where
-  abbrev N : Type 0
-  N = Placed
-
   abbrev pub reading_of : Expr Placed → Reading ℕ
   reading_of = ex.reading_of bound_of place_of sigs case_type marks signals type_of
 
@@ -266,9 +261,6 @@ module _ (sigs : List Sig) (case_type : ℕ → Option TypeTerm) (marks : ℕ �
       ≡ ustep (map-Form Placed (Form Placed) (Expr Placed) (List Use) (List Use) (uses_in bound cases) (uses bound cases) (tops y)) ++ r'
       → F (cstep (map-Form Placed (Form Placed) (Expr Placed) Claims Claims (form_claims defs bound) (claims defs bound) (tops y)))
       (step (map-Form Placed (Form Placed) (Expr Placed) (Placed → Reading ℕ) (Reading ℕ) form_reading reading_of (tops y)) n) × (r ≡ r')
-
-  abbrev first_use : Placed → List Use → Use
-  first_use n = first_or (used n)
 
   -- the note is of the binder of the name
   note_is : (n : Placed) (z : Binder) (xs ys : List Use) → used n ∷ xs ≡ use_of z ∷ ys → bound_of n ≡ z

@@ -1,6 +1,6 @@
 -- The definitions of a file, one after the other.
-use Rattle.std.specs.Prelude.{◌≡◌, refl, ℕ, suc, ◌+◌, Bool, true, List, [], ◌∷◌, ◌++◌, map, length, Option, option_map}
-use Rattle.std.proofs.Common.{ap, ap₂, sym, ◌∙◌, subst, arith, append_assoc}
+use Rattle.std.specs.Prelude.{◌≡◌, refl, ℕ, ◌+◌, Bool, true, List, [], ◌∷◌, ◌++◌, map, length, Option, option_map}
+use Rattle.std.proofs.Common.{ap, sym, ◌∙◌, subst, arith, append_assoc}
 use Rattle.ls_base.specs.declared.Line.{Line}
 use Rattle.ls_base.specs.declared.Name.{Name}
 use Rattle.ls_ast.specs.declared.tree.BodyOf.{BodyOf}
@@ -20,10 +20,10 @@ use Rattle.type_rules.specs.Schemes.{is_data}
 use Rattle.type_rules.specs.Bodies as B
 use Rattle.type_rules.specs.Bodies.{index_of}
 use Rattle.type_rules.specs.Definitions.{Definition, variables, params_named, vars_named}
-use Rattle.type_rules.specs.Files.{LetOf, Judged, Typed, annotation, appearing, lets, note_types, placed, renumbered, signature}
+use Rattle.type_rules.specs.Files.{LetOf, Judged, Typed, annotation, appearing, lets, note_types, placed, signature}
 use Rattle.type_rules.specs.Laws.{AreFunctionsIn}
 use Rattle.type_rules.specs.Numbers.{Placed, bound_of, place_of}
-use Rattle.type_rules.specs.Principal.{IsPrincipal, asks_of, names_here, marks_here, types_here}
+use Rattle.type_rules.specs.Principal.{asks_of, names_here, marks_here, types_here}
 use Rattle.type_rules.proofs.Placing.{meets_left, meets_right}
 use Rattle.type_rules.proofs.Principal.{obeys_is}
 use Rattle.scope_rules.specs.After as After
@@ -32,9 +32,9 @@ use Rattle.scope_rules.specs.declared.claims.Earlier.{Earlier}
 use Rattle.scope_rules.specs.Faults as F
 use Rattle.scope_rules.specs.File.{known_after}
 use Rattle.scope_rules.specs.Resolved.{resolved_defs, resolved_body, no_uses}
-use Rattle.type_premises.specs.Premises.{FunctionTypes, FunctionParams, AreFunctionsAll, definitions}
+use Rattle.type_premises.specs.Premises.{FunctionParams, AreFunctionsAll, definitions}
 use Rattle.type_premises.proofs.Lists.{rest, first_or}
-use Rattle.type_premises.proofs.Definition.{Heads, definition, are_functions}
+use Rattle.type_premises.proofs.Definition.{Heads, are_functions}
 use Rattle.type_premises.proofs.Names.{param_types}
 
 end_nil : {A : Type 0} (xs : List A) → xs ++ [] ≡ xs

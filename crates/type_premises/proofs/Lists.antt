@@ -1,5 +1,5 @@
 -- Lists and choices.
-use Rattle.std.specs.Prelude.{◌≡◌, refl, ℕ, zero, suc, ◌+◌, ◌&&◌, ◌||◌, Bool, true, false, List, [], ◌∷◌, ◌++◌, map, ◌⊎◌}
+use Rattle.std.specs.Prelude.{◌≡◌, refl, ◌&&◌, ◌||◌, Bool, true, false, List, [], ◌∷◌, ◌++◌, map, ◌⊎◌}
 use Rattle.std.specs.List.{list_any}
 use Rattle.std.proofs.Common.{ap, sym, ◌∙◌, inl, inr, append_assoc}
 use Rattle.tree_notes.specs.Each.{Each}
@@ -53,10 +53,6 @@ map_on f (x ∷ xs) ys = ap (λ z. f x ∷ z) (map_on f xs ys)
 -- two parts, each before what follows it
 pub regroup : {A B : Type 0} (f : A → B) (xs ys : List A) (us vs r r' : List B) → map f (xs ++ ys) ++ r ≡ (us ++ vs) ++ r' → map f xs ++ (map f ys ++ r) ≡ us ++ (vs ++ r')
 regroup f xs ys us vs r r' e = sym (append_assoc (map f xs) (map f ys) r) ∙ ap (λ z. z ++ r) (sym (map_on f xs ys)) ∙ e ∙ append_assoc us vs r'
-
-pub each_mapped : {A B : Type 0} (f : A → B) (Q : B → Type 0) (xs : List A) → Each Q (map f xs) → Each (λ x. Q (f x)) xs
-each_mapped f Q [] h = tt
-each_mapped f Q (x ∷ xs) h = (h.0, each_mapped f Q xs h.1)
 
 pub each_weaker : {A : Type 0} (Q Q' : A → Type 0) (xs : List A) → ((x : A) → Q x → Q' x) → Each Q xs → Each Q' xs
 each_weaker Q Q' [] f h = tt

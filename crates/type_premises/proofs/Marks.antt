@@ -1,5 +1,5 @@
 -- The marks of the names in the parameters, and how many names a pattern has.
-use Rattle.std.specs.Prelude.{◌≡◌, refl, ℕ, zero, suc, ◌+◌, ◌<◌, Bool, true, false, List, [], ◌∷◌, ◌++◌, map, length, slice_get, Option, Some, None}
+use Rattle.std.specs.Prelude.{◌≡◌, refl, ℕ, zero, suc, ◌+◌, ◌<◌, Bool, true, false, List, [], ◌∷◌, ◌++◌, map, length, slice_get, Option, Some}
 use Rattle.std.proofs.Common.{ap, ap₂, sym, ◌∙◌, subst, arith, length-append}
 use Rattle.ls_ast.specs.declared.tree.Mark.{Mark}
 use Rattle.ls_ast.specs.declared.tree.Mark.TheVariants as mark
@@ -7,7 +7,7 @@ use Rattle.ls_ast.specs.declared.tree.Pat.{Pat, fold-Pat, ind-Pat, roll-Pat, fol
 use Rattle.ls_ast.specs.declared.tree.Pat.TheOpen.{Pat-F}
 use Rattle.ls_places.specs.Patterns as FP
 use Rattle.type_rules.specs.Bodies.{Shape, shape_of, shape_step, names_in}
-use Rattle.type_rules.specs.Definitions.{name_marks, same_marks, mark_in, param_names}
+use Rattle.type_rules.specs.Definitions.{name_marks, same_marks, mark_in}
 use Rattle.type_rules.specs.Expressions.{is_functional}
 use Rattle.scope_rules.specs.Places as P
 use Rattle.scope_rules.specs.Claims.{is_function}

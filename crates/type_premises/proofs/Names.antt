@@ -1,6 +1,6 @@
 -- The types of parameters that are marked as functions, in a signature.
-use Rattle.std.specs.Prelude.{◌≡◌, refl, ℕ, zero, suc, ◌+◌, ◌<◌, Bool, true, false, List, [], ◌∷◌, ◌++◌, map, length, slice_get, Option, Some, None, if◌then◌else◌, nat_lt}
-use Rattle.std.proofs.Common.{ap, ap₂, sym, ◌∙◌, subst, arith, length-append}
+use Rattle.std.specs.Prelude.{◌≡◌, refl, ℕ, ◌+◌, ◌<◌, Bool, true, false, List, [], ◌∷◌, map, length, slice_get, Option, Some, None, if◌then◌else◌, nat_lt}
+use Rattle.std.proofs.Common.{ap, ◌∙◌, subst, arith, length-append}
 use Rattle.ls_ast.specs.declared.tree.Mark.{Mark}
 use Rattle.ls_ast.specs.declared.tree.Mark.TheVariants as mark
 use Rattle.ls_ast.specs.declared.tree.Pat.{Pat}
@@ -17,7 +17,7 @@ use Rattle.type_rules.specs.Demands.{Meets}
 use Rattle.type_rules.specs.Numbers.{Placed, bound_of, place_of}
 use Rattle.type_rules.specs.Bodies as B
 use Rattle.type_rules.specs.Bodies.{shape_of}
-use Rattle.type_rules.specs.Definitions.{name_marks, same_marks, mark_in, param_names, names_type}
+use Rattle.type_rules.specs.Definitions.{name_marks, mark_in, param_names, names_type}
 use Rattle.type_rules.specs.Expressions.{is_functional}
 use Rattle.type_rules.specs.Files.{note_types}
 use Rattle.type_rules.specs.Principal.{typed_by}

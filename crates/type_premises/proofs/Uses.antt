@@ -1,22 +1,18 @@
 -- A parameter that is used as a function in an expression is one where the types meet what the expression asks.
-use Rattle.std.specs.Prelude.{◌≡◌, refl, ℕ, zero, suc, ◌+◌, ◌==◌, ◌&&◌, ◌||◌, not, Bool, true, false, List, [], ◌∷◌, ◌++◌, map, length, drop, slice_get, Option, Some, None, option_map, is_some, if◌then◌else◌, nat_lt, ◌⊎◌}
+use Rattle.std.specs.Prelude.{◌≡◌, refl, ℕ, suc, ◌+◌, ◌==◌, ◌&&◌, ◌||◌, not, Bool, true, false, List, [], ◌∷◌, ◌++◌, map, length, slice_get, Option, Some, None, if◌then◌else◌, nat_lt, ◌⊎◌}
 use Rattle.std.specs.List.{list_any}
-use Rattle.std.proofs.Common.{ap, ap₂, sym, ◌∙◌, subst, inl, inr, arith}
-use Rattle.std.proofs.lemmas.Bool.{and_parts}
-use Rattle.ls_ast.specs.declared.tree.Case.{Case}
+use Rattle.std.proofs.Common.{ap, sym, ◌∙◌, subst, inl, inr, arith}
 use Rattle.ls_ast.specs.declared.tree.Mark.{Mark}
 use Rattle.ls_ast.specs.declared.tree.Mark.TheVariants as mark
-use Rattle.ls_terms.specs.declared.types.Kind.{Kind}
 use Rattle.ls_terms.specs.declared.types.Kind.TheVariants.{Comb}
 use Rattle.ls_terms.specs.declared.types.TypeTerm.{TypeTerm}
 use Rattle.ls_terms.specs.declared.types.TypeTerm.TheVariants as t
 use Rattle.ls_sig.specs.Notes.{is_signal}
 use Rattle.ls_sig.specs.declared.sigs.Sig.{Sig}
-use Rattle.tree_notes.specs.Each.{Each}
-use Rattle.type_rules.specs.Schemes.{is_data, put}
+use Rattle.type_rules.specs.Schemes.{is_data}
 use Rattle.type_rules.specs.declared.demand.Demand.{Demand}
-use Rattle.type_rules.specs.declared.demand.Demand.TheVariants.{Fits, Equal, Function, Never}
-use Rattle.type_rules.specs.Demands.{map_fits, Fit, Holds, Meets}
+use Rattle.type_rules.specs.declared.demand.Demand.TheVariants.{Fits, Function, Never}
+use Rattle.type_rules.specs.Demands.{map_fits, Fit, Meets}
 use Rattle.type_rules.specs.Expressions.{any, Reading, reading, streams, types_of, zip_fits, given, applied, restarts, is_bare, is_functional, is_passed, rest_of, called, partial, call_of, application, kind_of, same_kind, none_of}
 use Rattle.type_rules.proofs.Placing.{put_not, arrow_data, meets_left, meets_right}
 use Rattle.scope_rules.specs.Places.{stream}
@@ -29,7 +25,7 @@ use Rattle.scope_rules.specs.Claims as C
 use Rattle.scope_rules.specs.Claims.{Claims, at_marks, all_at, if_any, stand_for, proper, claim_if, is_function, def_claims, loose_claims, given_some, passable}
 use Rattle.scope_rules.specs.Laws.{as_function, function_use}
 use Rattle.type_premises.specs.Premises.{FunctionTypes}
-use Rattle.type_premises.proofs.Lists.{either, differ, any_split, or_cases}
+use Rattle.type_premises.proofs.Lists.{either, differ, any_split}
 
 functional_is : (m : Mark) → is_function m ≡ true → is_functional m ≡ true
 functional_is mark.Unknown h = h
