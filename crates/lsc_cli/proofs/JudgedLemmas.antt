@@ -1,5 +1,5 @@
 -- From what a part of the call comes to, to what the whole call does.
-use Rattle.std.proofs.Common.{◌≡◌, ◌≢◌, ℕ, ◌<◌, ◌≤◌, List, [], ◌++◌, length, Option, Some, None, refl, sym, ap, subst}
+use Rattle.std.proofs.Common.{◌≡◌, ◌≢◌, ℕ, ◌<◌, ◌≤◌, List, [], ◌++◌, length, Option, Some, None, true, false, refl, sym, ◌∙◌, ap, subst, ◌⊎◌, inl, inr}
 use Rattle.std.proofs.lemmas.List.{append-nil}
 use Rattle.std.specs.Prelude.{Err}
 use Rattle.std.specs.Option.{option_map, IfSome}
@@ -14,9 +14,11 @@ use Rattle.step_text.specs.declared.fault.CodeFault.TheVariants as code
 use Rattle.step_text.specs.Text.{IsRefused, IsRefusedText}
 use Rattle.lsc_cli.specs.declared.status.Status.{Status}
 use Rattle.lsc_cli.specs.declared.status.Status.TheVariants as statuses
-use Rattle.lsc_cli.specs.Call.{ComesFrom}
+use Rattle.ls_base.specs.Outside.{Rose}
+use Rattle.lsc_cli.specs.Call.{ComesFrom, IsInner}
+use Rattle.lsc_cli.specs.Status.{is_about_file}
 use Rattle.lsc_cli.specs.Outcome.{Comes, refusal, too_large}
-use Rattle.lsc_cli.specs.Refusals.{syntax_line}
+use Rattle.lsc_cli.specs.Refusals.{syntax_fault_text, syntax_text}
 use Rattle.lsc_cli.specs.Start.{Start, Ends, IsStart, TooLong, Within, file_limit}
 
 -- what began so began otherwise too
@@ -56,11 +58,11 @@ comes-within Judges most None text input left answer old new is short comes = tt
 comes-within Judges most (Some bytes) text input left answer old new is short comes =
     (comes.0, subst (λ bs. IsStart Judges bs comes.0) is (Within short comes.1), comes.2)
 
--- what holds at the line of a syntax fault
-pub at-syntax : (fault : SyntaxFault) (line : Line) (P : Line → Type 0) → syntax_line fault ≡ Some line
-    → IfSyntax {X = FileOf Plain} (Err fault) P → P line
-at-syntax (syntax.Syntax at) line P is h = subst P (let e : at ≡ line = cc in e) h
-at-syntax syntax.NoMemory line P is h = absurd (cc)
+-- a syntax fault that is not want of memory has a line
+pub at-syntax : (fault : SyntaxFault) (P : Line → Type 0) → fault ≢ syntax.NoMemory → IfSyntax {X = FileOf Plain} (Err fault) P
+    → (line : Line) × P line × (syntax_fault_text fault ≡ syntax_text line)
+at-syntax (syntax.Syntax line) P some h = (line, h, refl)
+at-syntax syntax.NoMemory P some h = absurd (some refl)
 
 -- a refusal of step code that is not for want of memory
 pub refused-text : (bytes : List ℕ) (fault : CodeFault) → fault ≢ code.NoMemory → IsRefused bytes fault → IsRefusedText bytes fault
@@ -69,3 +71,30 @@ refused-text bytes (code.BadSlot line) some is = is
 refused-text bytes (code.BadOrder line) some is = is
 refused-text bytes (code.BadShape line) some is = is
 refused-text bytes code.NoMemory some is = absurd (some refl)
+
+-- the causes of a command that reads no input
+pub inner_alone : (A B : Type 0) (answer : Status) (reads writes writes_after : ℕ) → A
+    → (answer ≡ statuses.Done) ⊎ ((answer ≡ statuses.Refused) ⊎ ((answer ≡ statuses.WriteFault) ⊎ (answer ≡ statuses.NoMemory)))
+    → (answer ≡ statuses.WriteFault → Rose writes writes_after) → (answer ≡ statuses.NoMemory → B) → IsInner answer reads reads writes writes_after (A × B)
+inner_alone A B answer reads writes writes_after same is rose none = record {
+  causes = record {
+    read_fault = λ e. absurd (other answer statuses.ReadFault is e (λ p. let q : statuses.Done ≡ statuses.ReadFault = p in cc) (λ p. let q : statuses.Refused ≡ statuses.ReadFault = p in cc) (λ p. let q : statuses.WriteFault ≡ statuses.ReadFault = p in cc) (λ p. let q : statuses.NoMemory ≡ statuses.ReadFault = p in cc));
+    write_fault = rose;
+    untouched = λ e. (same, none (memory answer is e));
+  };
+  usage = λ e. other answer statuses.Usage is e (λ p. let q : statuses.Done ≡ statuses.Usage = p in cc) (λ p. let q : statuses.Refused ≡ statuses.Usage = p in cc) (λ p. let q : statuses.WriteFault ≡ statuses.Usage = p in cc) (λ p. let q : statuses.NoMemory ≡ statuses.Usage = p in cc);
+  unloaded = λ e. other answer statuses.Unloaded is e (λ p. let q : statuses.Done ≡ statuses.Unloaded = p in cc) (λ p. let q : statuses.Refused ≡ statuses.Unloaded = p in cc) (λ p. let q : statuses.WriteFault ≡ statuses.Unloaded = p in cc) (λ p. let q : statuses.NoMemory ≡ statuses.Unloaded = p in cc);
+}
+  where
+    other : (a s : Status) → (a ≡ statuses.Done) ⊎ ((a ≡ statuses.Refused) ⊎ ((a ≡ statuses.WriteFault) ⊎ (a ≡ statuses.NoMemory))) → a ≡ s
+        → (statuses.Done ≡ s → ⊥) → (statuses.Refused ≡ s → ⊥) → (statuses.WriteFault ≡ s → ⊥) → (statuses.NoMemory ≡ s → ⊥) → ⊥
+    other a s (inl d) e p q r t = p (sym d ∙ e)
+    other a s (inr (inl d)) e p q r t = q (sym d ∙ e)
+    other a s (inr (inr (inl d))) e p q r t = r (sym d ∙ e)
+    other a s (inr (inr (inr d))) e p q r t = t (sym d ∙ e)
+
+    memory : (a : Status) → (a ≡ statuses.Done) ⊎ ((a ≡ statuses.Refused) ⊎ ((a ≡ statuses.WriteFault) ⊎ (a ≡ statuses.NoMemory))) → is_about_file a ≡ false → a ≡ statuses.NoMemory
+    memory a (inl d) e = absurd (let q : true ≡ false = sym (ap is_about_file d) ∙ e in cc)
+    memory a (inr (inl d)) e = absurd (let q : true ≡ false = sym (ap is_about_file d) ∙ e in cc)
+    memory a (inr (inr (inl d))) e = absurd (let q : true ≡ false = sym (ap is_about_file d) ∙ e in cc)
+    memory a (inr (inr (inr d))) e = d

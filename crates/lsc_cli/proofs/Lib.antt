@@ -1,2 +1,3 @@
 pub mod ClosingLemmas
 pub mod JudgedLemmas
+pub mod TypeLines

@@ -3,11 +3,12 @@ use Rattle.std.specs.Prelude.{◌≡◌, ◌≢◌, ℕ, true, false, List, Opti
 use Rattle.ls_base.specs.Outside.{Rose}
 use Rattle.lsc_cli.specs.declared.status.Status.{Status}
 use Rattle.lsc_cli.specs.declared.status.Status.TheVariants.{Usage, Unloaded, ReadFault, WriteFault}
-use Rattle.lsc_cli.specs.Outcome.{Comes}
+use Rattle.lsc_cli.specs.Check.{IsChecked}
+use Rattle.lsc_cli.specs.Outcome.{Outcome, Comes}
 use Rattle.lsc_cli.specs.Run.{Runs}
 use Rattle.lsc_cli.specs.Start.{Start, Ends, Goes, IsStart, IsNodeStart, IsCodeStart}
 use Rattle.lsc_cli.specs.Status.{is_about_file}
-use Rattle.command_words.specs.Forms.{Task, Run, Exec}
+use Rattle.command_words.specs.Forms.{Task, Check, Run, Exec}
 use Rattle.lsc_cli.specs.Words.{Job, most_of}
 
 -- what a call comes to that began so
@@ -21,6 +22,7 @@ ComesFrom Begins most input left answer old new = (start : Start) × Begins star
 
 -- what a file within the limit comes to, by what is done with it
 abbrev pub Judges : Task → List ℕ → Start → Type 0
+Judges Check file start = (outcome : Outcome) × IsChecked file outcome × (start ≡ Ends outcome)
 Judges (Run node most) file start = IsNodeStart node file start
 Judges Exec file start = IsCodeStart file start
 Judges _ file start = ⊥

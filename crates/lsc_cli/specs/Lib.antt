@@ -1,4 +1,5 @@
 pub mod Call
+pub mod Check
 pub mod Outcome
 pub mod Refusals
 pub mod Run

@@ -3,12 +3,15 @@ use Rattle.std.specs.Prelude.{◌≡◌, ◌≢◌, ℕ, false, List, [], ◌++�
 use Rattle.std.specs.Option.{option_map}
 use Rattle.ls_base.specs.Outside.{WritesFront}
 use Rattle.lsc_cli.specs.declared.status.Status.{Status}
-use Rattle.lsc_cli.specs.declared.status.Status.TheVariants.{Refused, ReadFault, WriteFault, TooLarge}
+use Rattle.lsc_cli.specs.declared.status.Status.TheVariants.{Done, Refused, ReadFault, WriteFault, TooLarge}
 use Rattle.lsc_cli.specs.Status.{is_fault}
 
 pub record Outcome : Type 0 where
   pub status : Status
   pub text : List ℕ
+
+abbrev pub done : List ℕ → Outcome
+done text = record { status = Done; text = text }
 
 abbrev pub refusal : List ℕ → Outcome
 refusal text = record { status = Refused; text = text }

@@ -1,8 +1,12 @@
 -- The lines of refusals.
-use Rattle.std.specs.Prelude.{ℕ, List, [], ◌++◌, Option, Some, None, codes, decimal}
+use Rattle.std.specs.Prelude.{ℕ, List, [], ◌++◌, codes, decimal}
 use Rattle.ls_base.specs.declared.Line.{Line}
 use Rattle.ls_lexer.specs.declared.fault.LexFault.{LexFault}
 use Rattle.ls_lexer.specs.declared.fault.LexFault.TheVariants as lex
+use Rattle.ls_scope.specs.declared.fault.ScopeFault.{ScopeFault}
+use Rattle.ls_scope.specs.declared.fault.ScopeFault.TheVariants as scope
+use Rattle.type_infer.specs.declared.fault.TypeFault.{TypeFault}
+use Rattle.type_infer.specs.declared.fault.TypeFault.TheVariants as types
 use Rattle.step_text.specs.declared.fault.CodeFault.{CodeFault}
 use Rattle.step_text.specs.declared.fault.CodeFault.TheVariants as code
 use Rattle.ls_parser.specs.declared.definitions.SyntaxFault.{SyntaxFault}
@@ -21,14 +25,27 @@ lex_text (lex.WideInt line) = at_line (codes "refused: integer too wide at line 
 lex_text (lex.OpenComment line) = at_line (codes "refused: comment not closed at line ") line
 lex_text lex.NoMemory = []
 
--- the line of a syntax fault
-abbrev pub syntax_line : SyntaxFault → Option Line
-syntax_line (syntax.Syntax line) = Some line
-syntax_line syntax.NoMemory = None
-
 -- and where its tokens are no file
 abbrev pub syntax_text : Line → List ℕ
 syntax_text line = at_line (codes "refused: syntax at line ") line
+
+abbrev pub syntax_fault_text : SyntaxFault → List ℕ
+syntax_fault_text (syntax.Syntax line) = syntax_text line
+syntax_fault_text syntax.NoMemory = []
+
+-- and where a definition breaks the rules of scope
+abbrev pub scope_text : ScopeFault → List ℕ
+scope_text (scope.Twice line) = at_line (codes "refused: name bound twice at line ") line
+scope_text (scope.Unbound line) = at_line (codes "refused: name not bound at line ") line
+scope_text (scope.NotAllArms line) = at_line (codes "refused: arms do not cover at line ") line
+scope_text (scope.Mixed line) = at_line (codes "refused: name used in two ways at line ") line
+scope_text (scope.NotCombinatorial line) = at_line (codes "refused: not combinatorial at line ") line
+scope_text scope.NoMemory = []
+
+-- and where one has no types
+abbrev pub types_text : TypeFault → List ℕ
+types_text (types.IllTyped line) = at_line (codes "refused: type at line ") line
+types_text types.NoMemory = []
 
 -- and where a text is no step code
 abbrev pub code_text : CodeFault → List ℕ

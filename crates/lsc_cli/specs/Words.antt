@@ -11,7 +11,7 @@ texts_of words = map string_bytes words
 
 -- what can be done with a file so far; the other forms of a command are answered as words of no form are
 abbrev pub is_built : Task → Bool
-is_built Check = false
+is_built Check = true
 is_built (Run node most) = true
 is_built (Code node) = false
 is_built (Model node) = false

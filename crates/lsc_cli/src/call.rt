@@ -6,6 +6,7 @@ ghost use Rattle.lsc_cli.specs.Call.{ComesFrom, HasCause, IsInner, IsJudged, Jud
 ghost use Rattle.lsc_cli.specs.Status.{is_about_file};
 ghost use Rattle.lsc_cli.specs.Words as spec;
 
+use crate::check::check_text;
 use crate::exec::exec_text;
 use crate::node::run_text;
 use crate::status::Status;
@@ -49,8 +50,8 @@ fn built_of<'a>(found: Option<Command<'a>>) -> Option<(&'a str, Task<'a>)>
 {
     match found? {
         Command::OnFile(file, task) => match task {
-            Task::Run(_, _) | Task::Exec => Some((file, task)),
-            Task::Check | Task::Code(_) | Task::Model(_) => None,
+            Task::Check | Task::Run(_, _) | Task::Exec => Some((file, task)),
+            Task::Code(_) | Task::Model(_) => None,
         },
         Command::Demo(_, _) => None,
     }
@@ -95,8 +96,9 @@ fn carry_out<S: Source, K: Sink>(
     ensures inner { IsInner result (S.count input.old) (S.count input.new) (K.count out.old) (K.count out.new) ((input.new ≡ input.old) × (out.new ≡ out.old)) }
 {
     match task {
+        Task::Check => check_text(alloc, text, out),
         Task::Run(node, most) => run_text(alloc, text, node, *most, input, out),
         Task::Exec => exec_text(alloc, text, input, out),
-        Task::Check | Task::Code(_) | Task::Model(_) => unreachable!(),
+        Task::Code(_) | Task::Model(_) => unreachable!(),
     }
 }

@@ -2,6 +2,7 @@
 #![tactic(auto)]
 
 mod call;
+mod check;
 mod exec;
 mod form;
 mod node;

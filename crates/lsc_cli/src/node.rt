@@ -3,7 +3,6 @@ ghost use Rattle.std.specs.Prelude.{◌≡◌, ◌≤◌, length, true};
 ghost use Rattle.line_io.specs.Fields.{is_named};
 ghost use Rattle.sum_model.specs.Running.{node_of};
 ghost use Rattle.lsc_cli.specs.Call.{ComesFrom, IsInner};
-ghost use Rattle.lsc_cli.specs.Refusals.{syntax_line};
 ghost use Rattle.lsc_cli.specs.Run.{Runs};
 ghost use Rattle.lsc_cli.specs.Start.{IsNodeStart, IsTokensStart, start_node};
 ghost use Rattle.lsc_cli.specs.Status.{is_about_file};
@@ -14,7 +13,7 @@ use crate::refusal::{refuse, refuse_syntax, refuse_tokens};
 use crate::run::run_machine;
 use crate::status::Status;
 use ls_ast::File;
-use ls_base::{Line, Name, Names, Sink, Source};
+use ls_base::{Name, Names, Sink, Source};
 use ls_lexer::{LexFault, Tokens, lex};
 use ls_parser::{SyntaxFault, parse};
 use std::alloc::Global;
@@ -54,20 +53,8 @@ fn run_tokens<S: Source, K: Sink>(
 {
     match parse(alloc, tokens) {
         Ok(file) => run_file(alloc, &file, node, most, input, out),
-        Err(fault) => match line_of(fault) {
-            Some(line) => refuse_syntax(line, out),
-            None => Status::NoMemory,
-        },
-    }
-}
-
-/// The line of a syntax fault; want of memory has none.
-fn line_of(fault: SyntaxFault) -> Option<Line>
-    ensures { result ≡ syntax_line fault }
-{
-    match fault {
-        SyntaxFault::Syntax(line) => Some(line),
-        SyntaxFault::NoMemory => None,
+        Err(SyntaxFault::NoMemory) => Status::NoMemory,
+        Err(fault) => refuse_syntax(fault, out),
     }
 }
 

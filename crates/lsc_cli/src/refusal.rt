@@ -4,13 +4,19 @@ ghost use Rattle.ls_base.specs.Outside.{Rose};
 ghost use Rattle.ls_lexer.specs.declared.fault.LexFault.{LexFault};
 ghost use Rattle.step_text.specs.declared.fault.CodeFault.{CodeFault};
 ghost use Rattle.lsc_cli.specs.Outcome.{Comes, refusal};
-ghost use Rattle.lsc_cli.specs.Refusals.{at_line, code_text, lex_text, syntax_text};
+ghost use Rattle.ls_parser.specs.declared.definitions.SyntaxFault.{SyntaxFault};
+ghost use Rattle.ls_scope.specs.declared.fault.ScopeFault.{ScopeFault};
+ghost use Rattle.type_infer.specs.declared.fault.TypeFault.{TypeFault};
+ghost use Rattle.lsc_cli.specs.Refusals.{at_line, code_text, lex_text, scope_text, syntax_fault_text, syntax_text, types_text};
 
 use crate::status::Status;
 use ls_base::{Failed, Line, Sink, write_all};
 use ls_lexer::LexFault;
+use ls_parser::SyntaxFault;
+use ls_scope::ScopeFault;
 use run_text::write_numbered;
 use step_text::CodeFault;
+use type_infer::TypeFault;
 
 /// Writes the refusal of a file that is no row of tokens.
 pub(crate) fn refuse_tokens<K: Sink>(fault: LexFault, out: &mut K) -> Status
@@ -48,12 +54,52 @@ pub(crate) fn refuse_code<K: Sink>(fault: CodeFault, out: &mut K) -> Status
 }
 
 /// Writes the refusal of tokens that are no file.
-pub(crate) fn refuse_syntax<K: Sink>(line: Line, out: &mut K) -> Status
-    ensures outcome { Comes (refusal (syntax_text line)) result (K.written out.old) (K.written out.new) }
+pub(crate) fn refuse_syntax<K: Sink>(fault: SyntaxFault, out: &mut K) -> Status
+    requires { fault ≢ SyntaxFault.NoMemory }
+    ensures outcome { Comes (refusal (syntax_fault_text fault)) result (K.written out.old) (K.written out.new) }
     ensures status { (result ≡ Status.Refused) ⊎ (result ≡ Status.WriteFault) }
     ensures write_fault { result ≡ Status.WriteFault → Rose (K.count out.old) (K.count out.new) }
 {
-    refuse_at(b"refused: syntax at line ", line, out)
+    match fault {
+        SyntaxFault::Syntax(line) => refuse_at(b"refused: syntax at line ", line, out),
+        SyntaxFault::NoMemory => unreachable!(),
+    }
+}
+
+/// Writes the refusal of a file that breaks the rules of scope.
+pub(crate) fn refuse_scope<K: Sink>(fault: ScopeFault, out: &mut K) -> Status
+    requires { fault ≢ ScopeFault.NoMemory }
+    ensures outcome { Comes (refusal (scope_text fault)) result (K.written out.old) (K.written out.new) }
+    ensures status { (result ≡ Status.Refused) ⊎ (result ≡ Status.WriteFault) }
+    ensures write_fault { result ≡ Status.WriteFault → Rose (K.count out.old) (K.count out.new) }
+{
+    match fault {
+        ScopeFault::Twice(line) => refuse_at(b"refused: name bound twice at line ", line, out),
+        ScopeFault::Unbound(line) => refuse_at(b"refused: name not bound at line ", line, out),
+        ScopeFault::NotAllArms(line) => refuse_at(
+            b"refused: arms do not cover at line ",
+            line,
+            out,
+        ),
+        ScopeFault::Mixed(line) => refuse_at(b"refused: name used in two ways at line ", line, out),
+        ScopeFault::NotCombinatorial(line) => {
+            refuse_at(b"refused: not combinatorial at line ", line, out)
+        }
+        ScopeFault::NoMemory => unreachable!(),
+    }
+}
+
+/// Writes the refusal of a file with a definition that has no types.
+pub(crate) fn refuse_types<K: Sink>(fault: TypeFault, out: &mut K) -> Status
+    requires { fault ≢ TypeFault.NoMemory }
+    ensures outcome { Comes (refusal (types_text fault)) result (K.written out.old) (K.written out.new) }
+    ensures status { (result ≡ Status.Refused) ⊎ (result ≡ Status.WriteFault) }
+    ensures write_fault { result ≡ Status.WriteFault → Rose (K.count out.old) (K.count out.new) }
+{
+    match fault {
+        TypeFault::IllTyped(line) => refuse_at(b"refused: type at line ", line, out),
+        TypeFault::NoMemory => unreachable!(),
+    }
 }
 
 /// Writes the line of a refusal that names a line of the file.

@@ -107,6 +107,40 @@ fn other_calls_are_refused(rt: HostRuntime) -> Result<(), Fail> {
 }
 
 #[test]
+fn files_are_checked(rt: HostRuntime) -> Result<(), Fail> {
+    let cases: [(&[u8], &[u8], Status); 6] = [
+        (SUM, b"val sum : int => int\n", Status::Done),
+        (
+            b"let id x = x\nlet f x = x + 1\n",
+            b"val id : 'a -> 'a\nval f : int -> int\n",
+            Status::Done,
+        ),
+        (b"", b"", Status::Done),
+        (
+            b"let f x = y\n",
+            b"refused: name not bound at line 1\n",
+            Status::Refused,
+        ),
+        (
+            b"\nlet f x = x + true\n",
+            b"refused: type at line 2\n",
+            Status::Refused,
+        ),
+        (
+            b"let f x =\n",
+            b"refused: syntax at line 1\n",
+            Status::Refused,
+        ),
+    ];
+    for (file, output, status) in cases {
+        let (answered, written) = answer(rt.alloc(), &["check", "f.ls"], file, b"")?;
+        assert_eq!(rt; answered, status);
+        assert_eq!(rt; written.as_slice(), output);
+    }
+    Ok(())
+}
+
+#[test]
 fn large_files_and_lines_are_refused(rt: HostRuntime) -> Result<(), Fail> {
     let run = ["run", "f.ls", "sum"];
     let file = vec![in rt.alloc(); b' '; 1_048_577]?;

@@ -1,0 +1,39 @@
+//! The first judgement that a file fails.
+
+use ls_base::NoMemory;
+use ls_lexer::LexFault;
+use ls_parser::SyntaxFault;
+use ls_scope::ScopeFault;
+use thiserror::Error;
+use type_infer::TypeFault;
+
+/// The first judgement that a file fails, with its fault; a fault inside is never want of memory.
+#[derive(Clone, Copy, Debug, PartialEq, Eq, Error)]
+pub enum FrontFault {
+    /// The text is no row of tokens.
+    #[error("the text is no row of tokens")]
+    Lex(LexFault),
+    /// The tokens are no file.
+    #[error("the tokens are no row of definitions")]
+    Syntax(SyntaxFault),
+    /// The names are not in scope.
+    #[error("the scope of names is broken")]
+    Scope(ScopeFault),
+    /// A definition has no types.
+    #[error("a definition is not well typed")]
+    Types(TypeFault),
+    /// A block of memory was refused.
+    #[error("out of memory")]
+    NoMemory,
+}
+
+impl From<NoMemory> for FrontFault {
+    ghost use Rattle.std.specs.Prelude.{◌≡◌};
+    ghost use Rattle.ls_front.specs.declared.fault.FrontFault.{FrontFault};
+
+    ghost from_gives = { λ error fault. fault ≡ FrontFault.NoMemory };
+
+    fn from(_error: NoMemory) -> FrontFault {
+        FrontFault::NoMemory
+    }
+}

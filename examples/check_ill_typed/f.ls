@@ -1,0 +1,2 @@
+let g x = x
+let f x = x + true

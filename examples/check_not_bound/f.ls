@@ -1,0 +1,2 @@
+type lamp = Off | On
+let node next l = match1 l
