@@ -12,3 +12,5 @@ mod terms;
 mod tokens;
 #[cfg(test)]
 mod trees;
+#[cfg(test)]
+mod types;
