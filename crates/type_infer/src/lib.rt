@@ -12,7 +12,3 @@ mod trees;
 pub use fault::TypeFault;
 pub use file::{infer_types, infer_types_after};
 
-#[test]
-fn compiles() {
-    prove!(1 == 1);
-}

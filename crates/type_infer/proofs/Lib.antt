@@ -1,0 +1,3 @@
+pub mod Inferred
+pub mod Stages
+pub mod Trees
