@@ -1,3 +1,4 @@
 pub mod Inferred
 pub mod Stages
+pub mod Tables
 pub mod Trees

@@ -1,5 +1,5 @@
 -- The enumerations of constructors.
-use Rattle.std.specs.Prelude.{ℕ, suc, ◌+◌, nat_eq, ◌≡◌, List, [], ◌∷◌, length, slice_get, Option, Some, None, if◌then◌else◌}
+use Rattle.std.specs.Prelude.{ℕ, suc, ◌+◌, nat_eq, ◌≡◌, ◌==◌, List, [], ◌∷◌, length, slice_get, Option, Some, None, if◌then◌else◌}
 use Rattle.std.specs.Str.{bytes_eq}
 use Rattle.std.specs.declared.hash.FoldHasher.{FoldHasher}
 use Rattle.std.specs.declared.hash.BuildHasherDefault.{BuildHasherDefault}
@@ -48,6 +48,10 @@ case_type env file = type_of_constructor (enumeration env file)
 
 abbrev pub Table : Type 0
 Table = IndexMap ℕ ℕ (BuildHasherDefault FoldHasher)
+
+-- what is there stays, and else this constructor is of this enumeration
+abbrev pub NameMore : ℕ → ℕ → Table → Table → Type 0
+NameMore k name old new = (x : ℕ) → get nat_eq new x ≡ or_later (get nat_eq old x) (if name == x then Some k else None)
 
 -- what is there stays, and else these constructors are of this enumeration
 abbrev pub NamesMore : ℕ → List Name → Table → Table → Type 0

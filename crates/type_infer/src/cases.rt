@@ -1,20 +1,20 @@
 //! The types of constructors.
 
-ghost use Rattle.std.specs.Prelude.{◌≡◌, nat_eq, slice_get, IfOk, OnOk, ◌∷◌, [], ℕ};
+ghost use Rattle.std.specs.Prelude.{◌≡◌, nat_eq, slice_get, length, IfOk, OnOk, ℕ};
 ghost use Rattle.indexmap.specs.IndexMap.{get};
 ghost use Rattle.type_infer.specs.Constructors as spec;
 ghost use Rattle.type_rules.specs.Files.{enumeration_of};
 
 use indexmap::IndexMap;
 use ls_ast::DefOf;
-use ls_base::{List, Name, NoMemory};
+use ls_base::{List, Name, Names, NoMemory};
 use ls_sig::{Env, Resolved, Use};
 use ls_terms::TypeTerm;
 use std::alloc::Global;
 use type_readings::CaseTypes;
 
 fn add_name(k: u32, name: u32, table: &mut IndexMap<u32, u32>) -> Result<(), NoMemory>
-    ensures { OnOk result (spec.NamesMore k (Name name ∷ []) table.old table.new) }
+    ensures { OnOk result (spec.NameMore k name table.old table.new) }
 {
     if table.contains_key(&name) {
         return Ok(());
@@ -95,6 +95,20 @@ fn own_table(
     Ok(table)
 }
 
+/// The number of a spelling.
+fn number_of(names: &Names, text: &str) -> Option<u32>
+    ensures { result ≡ spec.spelling_at 0 names.now text.now }
+{
+    let count = names.len();
+    match names.find(text) {
+        None => None,
+        Some(name) => {
+            prove!(count == count);
+            Some(name.0)
+        }
+    }
+}
+
 /// The types of the constructors of a file after an environment.
 #[derive(Drop)]
 pub struct FileCases<'a> {
@@ -131,9 +145,9 @@ impl FileCases<'_> {
     {
         match self.file.names.spell(Name(name)) {
             None => None,
-            Some(text) => match self.env.names.find(text) {
+            Some(text) => match number_of(&self.env.names, text) {
                 None => None,
-                Some(own) => match self.earlier.get(&own.0) {
+                Some(own) => match self.earlier.get(&own) {
                     Some(k) => Some(*k),
                     None => None,
                 },

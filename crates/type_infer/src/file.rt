@@ -105,7 +105,10 @@ fn infer_defs<C: CaseTypes>(
     let mut sigs = before.copy(alloc)?;
     let mut done = List::new(alloc);
     for def in defs {
-        let typed = infer_def(alloc, sigs.as_slice(), types, def)?;
+        let typed = match infer_def(alloc, sigs.as_slice(), types, def) {
+            Ok(typed) => typed,
+            Err(fault) => return Err(fault),
+        };
         add_signature(alloc, &typed, &mut sigs)?;
         done.push(typed)?;
     }
@@ -121,9 +124,13 @@ pub fn infer_types_after(alloc: Global, env: &Env, file: &Resolved) -> Result<Ty
     ensures ill { spec.AreFunctionsAll (case_type env.now file.now) 4096 env.now.sigs (lets file.now.defs) → (line : Line) → result ≡ Err (TypeFault.IllTyped line) → Illtyped (case_type env.now file.now) 4096 env.now.sigs (lets file.now.defs) line }
 {
     let types = FileCases::new(alloc, env, file)?;
-    let defs = infer_defs(alloc, &env.sigs, &types, file.defs.as_slice())?;
-    let names = file.names.copy(alloc)?;
-    Ok(Typed { defs, names })
+    match infer_defs(alloc, &env.sigs, &types, file.defs.as_slice()) {
+        Ok(defs) => {
+            let names = file.names.copy(alloc)?;
+            Ok(Typed { defs, names })
+        }
+        Err(fault) => Err(fault),
+    }
 }
 
 /// The types of a file: `infer_types_after` the environment of nothing.
