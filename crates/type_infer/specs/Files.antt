@@ -24,7 +24,7 @@ module _ (case_type : ℕ → Option TypeTerm) (limit : ℕ) (sigs : List Sig) w
   abbrev pub IsTyped : DefOf Use → DefOf TypeNote → Type 0
   IsTyped (d.Cases line name cases) r = r ≡ d.Cases line name cases
   IsTyped (d.Let line node name params marks notes body) r =
-      let def = record { params = params; marks = marks; notes = notes; body = body } in
+      let def : Definition Use = record { params = params; marks = marks; notes = notes; body = body } in
       AreFunctionsIn case_type sigs def
       → (f : ℕ → TypeTerm) × Typed case_type limit sigs def f × (r ≡ definition_of (annotated_let case_type sigs (record { line = line; node = node; name = name; def = def }) f))
 

@@ -1,6 +1,6 @@
 //! The types of constructors.
 
-ghost use Rattle.std.specs.Prelude.{◌≡◌, nat_eq, slice_get, length, IfOk, OnOk, ℕ};
+ghost use Rattle.std.specs.Prelude.{◌≡◌, ◌+◌, nat_eq, slice_get, length, IfOk, OnOk, ℕ};
 ghost use Rattle.indexmap.specs.IndexMap.{get};
 ghost use Rattle.type_infer.specs.Constructors as spec;
 ghost use Rattle.type_rules.specs.Files.{enumeration_of};

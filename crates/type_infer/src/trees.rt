@@ -4,7 +4,7 @@ ghost use Rattle.std.specs.Prelude.{◌≡◌, map, IfOk, OnOk};
 ghost use Rattle.tree_notes.specs.Noted.{in_body};
 ghost use Rattle.tree_notes.specs.Numbered.{number_body, number_notes};
 ghost use Rattle.type_infer.specs.Inference as spec;
-ghost use Rattle.type_rules.specs.Numbers.{placer, place_next, place_step};
+ghost use Rattle.type_rules.specs.Numbers.{Placed, placer, place_next, place_step};
 ghost use Rattle.type_rules.specs.Principal.{typed_by};
 
 use ls_ast::BodyOf;
