@@ -1,10 +1,10 @@
-mod Again
-mod AsFound
-mod Functions
-mod InSight
-mod NotesMade
-mod OnTree
-mod OtherBodies
-mod OtherNotes
-mod WalkNotes
-mod WholeNotes
+pub mod Again
+pub mod AsFound
+pub mod Functions
+pub mod InSight
+pub mod NotesMade
+pub mod OnTree
+pub mod OtherBodies
+pub mod OtherNotes
+pub mod WalkNotes
+pub mod WholeNotes
