@@ -1,16 +1,20 @@
 -- The types of a file, one definition more.
-use Rattle.std.specs.Prelude.{◌≡◌, refl, ℕ, List, [], ◌∷◌, ◌++◌, Option}
+use Rattle.std.specs.Prelude.{◌≡◌, refl, ℕ, Bool, List, [], ◌∷◌, ◌++◌, Option, Result, Err}
 use Rattle.std.proofs.Common.{ap, ap₂, sym, ◌∙◌, subst}
+use Rattle.ls_ast.specs.declared.tree.BodyOf.{BodyOf}
 use Rattle.ls_ast.specs.declared.tree.DefOf.{DefOf}
 use Rattle.ls_ast.specs.declared.tree.DefOf.TheVariants as d
+use Rattle.ls_ast.specs.declared.tree.Mark.{Mark}
+use Rattle.ls_ast.specs.declared.tree.Pat.{Pat}
 use Rattle.ls_base.specs.declared.Line.{Line}
 use Rattle.ls_base.specs.declared.Name.{Name}
 use Rattle.ls_sig.specs.declared.binder.TypeNote.{TypeNote}
 use Rattle.ls_sig.specs.declared.binder.Use.{Use}
 use Rattle.ls_sig.specs.declared.sigs.Sig.{Sig}
 use Rattle.ls_terms.specs.declared.types.TypeTerm.{TypeTerm}
+use Rattle.type_infer.specs.declared.fault.TypeFault.{TypeFault}
 use Rattle.type_infer.specs.Files.{definition_of, IsTyped, IsIll, AreFunctionsAll, AreTyped}
-use Rattle.type_infer.specs.Inference.{NoneObeys}
+use Rattle.type_infer.specs.Inference.{IsPrincipalOf, NoneObeys}
 use Rattle.type_rules.proofs.Steps.{judged_more}
 use Rattle.type_rules.specs.Definitions.{Definition}
 use Rattle.type_rules.specs.Files.{LetOf, Judged, Illtyped, Typed, annotation, signature, lets, in_place}
@@ -31,7 +35,23 @@ lets_append (d.Cases line name cases ∷ xs) ys = lets_append xs ys
 lets_append (d.Let line node name params marks notes body ∷ xs) ys =
     ap (λ l. record { line = line; node = node; name = name; def = record { params = params; marks = marks; notes = notes; body = body } } ∷ l) (lets_append xs ys)
 
+-- the line of a fault
+abbrev pub line_in : {A : Type 0} → Line → Result A TypeFault → Line
+line_in other (Err (TypeFault.IllTyped line)) = line
+line_in other _ = other
+
 module _ (case_type : ℕ → Option TypeTerm) (limit : ℕ) where
+  -- the types of a `let`, with copies of what it keeps
+  pub typed_let : (sigs : List Sig) (def : DefOf Use) (line : Line) (node : Bool) (name : Name) (params params' : List Pat) (marks marks' : List Mark) (notes : List Use) (body : BodyOf Use) (rn : List TypeNote) (rb : BodyOf TypeNote)
+      → def ≡ d.Let line node name params marks notes body → params' ≡ params → marks' ≡ marks
+      → (AreFunctionsIn case_type sigs (record { params = params; marks = marks; notes = notes; body = body })
+      → IsPrincipalOf case_type limit sigs (record { params = params; marks = marks; notes = notes; body = body }) (record { params = params; marks = marks; notes = rn; body = rb }))
+      → IsTyped case_type limit sigs def (d.Let line node name params' marks' rn rb)
+  typed_let sigs def line node name params params' marks marks' notes body rn rb is p_is m_is typed =
+      subst (λ z. IsTyped case_type limit sigs z (d.Let line node name params' marks' rn rb)) (sym is) (λ functions.
+        let t = typed functions in
+        (t.0, t.1, (λ i. d.Let line node name (p_is i) (m_is i) rn rb) ∙ ap (λ (a : Definition TypeNote). d.Let line node name a.params a.marks a.notes a.body) t.2))
+
   -- where definitions are judged, there is an annotated one in each place
   in_place_let : (sigs : List Sig) (ds : List (DefOf Use)) (as' : List (LetOf TypeNote)) (ss : List Sig) (x : LetOf Use) (a : LetOf TypeNote) → Judged case_type limit sigs (lets ds) as' ss
       → in_place (ds ++ d.Let x.line x.node x.name x.def.params x.def.marks x.def.notes x.def.body ∷ []) (as' ++ a ∷ []) ≡ in_place ds as' ++ definition_of a ∷ []

@@ -98,7 +98,7 @@ definition_turn k k' def front rest x whole mid new split next now before =
 
 -- ---- the number of a spelling
 
-item_or : List ℕ → Option (List ℕ) → List ℕ
+abbrev item_or : List ℕ → Option (List ℕ) → List ℕ
 item_or d (Some x) = x
 item_or d None = d
 
