@@ -1,5 +1,5 @@
 -- What a solution of a definition's demands comes to.
-use Rattle.std.specs.Prelude.{◌≡◌, ℕ, ◌+◌, ◌⊎◌, ◌≤◌, List, Option, length, map}
+use Rattle.std.specs.Prelude.{◌≡◌, ℕ, ◌+◌, ◌⊎◌, ◌≤◌, List, Option, Result, Ok, Err, length, map}
 use Rattle.std.proofs.Common.{ap, ap₂, sym, ◌∙◌, subst, arith, inl, inr}
 use Rattle.ls_ast.specs.declared.tree.BodyOf.{BodyOf}
 use Rattle.ls_ast.specs.declared.tree.Mark.{Mark}
@@ -24,6 +24,11 @@ use Rattle.type_rules.specs.Laws.{asks_in, AreFunctionsIn, NoneSmall}
 use Rattle.type_rules.specs.Numbers.{Placed, bound_of, place_of, placer, place_step, place_next, numbered}
 use Rattle.type_rules.specs.Principal.{typed_by}
 use Rattle.type_solve.specs.Solution.{Solves, HasOther, IsUnsolvable}
+
+-- the fault of an answer
+abbrev pub fault_in : {A E : Type 0} → E → Result A E → E
+fault_in other (Err fault) = fault
+fault_in other (Ok it) = other
 
 module _ (case_type : ℕ → Option TypeTerm) (sigs : List Sig) (d : Let) where
   -- what the walk collects is what the definition asks

@@ -4,15 +4,18 @@ use Rattle.std.proofs.Common.{ap, ap₂, sym, ◌∙◌, subst}
 use Rattle.ls_ast.specs.declared.tree.BodyOf.{BodyOf}
 use Rattle.ls_ast.specs.declared.tree.DefOf.{DefOf}
 use Rattle.ls_ast.specs.declared.tree.DefOf.TheVariants as d
+use Rattle.ls_ast.specs.declared.tree.FileOf.{FileOf}
 use Rattle.ls_ast.specs.declared.tree.Mark.{Mark}
 use Rattle.ls_ast.specs.declared.tree.Pat.{Pat}
 use Rattle.ls_base.specs.declared.Line.{Line}
 use Rattle.ls_base.specs.declared.Name.{Name}
 use Rattle.ls_sig.specs.declared.binder.TypeNote.{TypeNote}
 use Rattle.ls_sig.specs.declared.binder.Use.{Use}
+use Rattle.ls_sig.specs.declared.env.Env.{Env}
 use Rattle.ls_sig.specs.declared.sigs.Sig.{Sig}
 use Rattle.ls_terms.specs.declared.types.TypeTerm.{TypeTerm}
 use Rattle.type_infer.specs.declared.fault.TypeFault.{TypeFault}
+use Rattle.type_infer.specs.Constructors.{case_type}
 use Rattle.type_infer.specs.Files.{definition_of, IsTyped, IsIll, AreFunctionsAll, AreTyped}
 use Rattle.type_infer.specs.Inference.{IsPrincipalOf, NoneObeys}
 use Rattle.type_rules.proofs.Steps.{judged_more}
@@ -149,3 +152,21 @@ module _ (case_type : ℕ → Option TypeTerm) (limit : ℕ) where
             ill.0,
             subst (λ z. NoneObeys case_type limit z def) s.known ill.1,
           )
+
+-- what holds of a file and an environment that are told in other ways
+module _ (sigs : List Sig) (env' env : Env) (file' file : FileOf Use) (ds' ds : List (DefOf Use)) where
+  pub file_typed : (rs : List (DefOf TypeNote)) → env' ≡ env → file' ≡ file → ds' ≡ ds
+      → (AreFunctionsAll (case_type env' file') 4096 sigs (lets ds') → AreTyped (case_type env' file') 4096 sigs ds' rs)
+      → AreFunctionsAll (case_type env file) 4096 sigs (lets ds) → AreTyped (case_type env file) 4096 sigs ds rs
+  file_typed rs e f d h =
+      subst (λ z. AreFunctionsAll (case_type z file) 4096 sigs (lets ds) → AreTyped (case_type z file) 4096 sigs ds rs) e
+      (subst (λ z. AreFunctionsAll (case_type env' z) 4096 sigs (lets ds) → AreTyped (case_type env' z) 4096 sigs ds rs) f
+      (subst (λ z. AreFunctionsAll (case_type env' file') 4096 sigs (lets z) → AreTyped (case_type env' file') 4096 sigs z rs) d h))
+
+  pub file_ill : (line : Line) → env' ≡ env → file' ≡ file → ds' ≡ ds
+      → (AreFunctionsAll (case_type env' file') 4096 sigs (lets ds') → Illtyped (case_type env' file') 4096 sigs (lets ds') line)
+      → AreFunctionsAll (case_type env file) 4096 sigs (lets ds) → Illtyped (case_type env file) 4096 sigs (lets ds) line
+  file_ill line e f d h =
+      subst (λ z. AreFunctionsAll (case_type z file) 4096 sigs (lets ds) → Illtyped (case_type z file) 4096 sigs (lets ds) line) e
+      (subst (λ z. AreFunctionsAll (case_type env' z) 4096 sigs (lets ds) → Illtyped (case_type env' z) 4096 sigs (lets ds) line) f
+      (subst (λ z. AreFunctionsAll (case_type env' file') 4096 sigs (lets z) → Illtyped (case_type env' file') 4096 sigs (lets z) line) d h))

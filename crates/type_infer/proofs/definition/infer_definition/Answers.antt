@@ -1,4 +1,5 @@
-use Rattle.type_infer.proofs.Inferred.{typed_by_solution, none_by_fault}
+use Rattle.std.proofs.Common.{ap, Err}
+use Rattle.type_infer.proofs.Inferred.{fault_in, typed_by_solution, none_by_fault}
 use Rattle.type_infer.proofs.definition.infer_definition.Goals as goal
 
 pub returns-in-Ok-annotate-clause-typed : goal.returns-in-Ok-annotate-clause-typed
@@ -9,4 +10,4 @@ returns-in-Ok-annotate-clause-typed g c = λ functions.
 
 pub returns-clause-ill : goal.returns-clause-ill
 returns-clause-ill g c = λ e.
-    none_by_fault (g.C.CaseTypes.case_type c.args.cases.now) c.args.sigs.now c.args.def.now c.in-Ok.asked.demands c.in-Ok.ensures.demands (c.in-Err-solve.ensures.unsolved e)
+    none_by_fault (g.C.CaseTypes.case_type c.args.cases.now) c.args.sigs.now c.args.def.now c.in-Ok.asked.demands c.in-Ok.ensures.demands (c.in-Err-solve.ensures.unsolved (ap Err (ap (fault_in c.in-Err-solve.fault) e)))
