@@ -12,5 +12,3 @@ mod terms;
 mod tokens;
 #[cfg(test)]
 mod trees;
-#[cfg(test)]
-mod types;

@@ -1,5 +1,5 @@
 -- What a solution of a definition's demands comes to.
-use Rattle.std.specs.Prelude.{◌≡◌, ℕ, ◌+◌, ◌⊎◌, ◌≤◌, List, Option, Result, Ok, Err, length, map}
+use Rattle.std.specs.Prelude.{◌≡◌, ℕ, ◌+◌, ◌≤◌, List, Option, Result, Ok, Err, length, map}
 use Rattle.std.proofs.Common.{ap, ap₂, sym, ◌∙◌, subst, arith, inl, inr}
 use Rattle.ls_ast.specs.declared.tree.BodyOf.{BodyOf}
 use Rattle.ls_ast.specs.declared.tree.Mark.{Mark}
@@ -18,7 +18,7 @@ use Rattle.type_rules.proofs.Principal.{none_obeys}
 use Rattle.type_rules.proofs.Steps as steps
 use Rattle.type_rules.specs.declared.demand.Demand.{Demand}
 use Rattle.type_rules.specs.Definitions.{Definition, with_notes, variables, param_names, definition_asks}
-use Rattle.type_rules.specs.Demands.{hole, pairs, widths}
+use Rattle.type_rules.specs.Demands.{hole, pairs}
 use Rattle.type_rules.specs.Files.{placed, names_count, Typed}
 use Rattle.type_rules.specs.Laws.{asks_in, AreFunctionsIn, NoneSmall}
 use Rattle.type_rules.specs.Numbers.{Placed, bound_of, place_of, placer, place_step, place_next, numbered}

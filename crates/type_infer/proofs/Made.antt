@@ -1,6 +1,6 @@
 -- Trees whose notes are made from the old ones, with a state that stays.
 use Rattle.std.specs.Prelude.{◌≡◌, refl, List, [], ◌∷◌, map}
-use Rattle.std.proofs.Common.{ap, ap₂, ◌∙◌}
+use Rattle.std.proofs.Common.{ap}
 use Rattle.ls_ast.specs.declared.tree.BodyOf.{BodyOf}
 use Rattle.tree_notes.proofs.Applied.{body_put}
 use Rattle.tree_notes.specs.Noted.{in_body}

@@ -1,6 +1,6 @@
 -- The types of a file, one definition more.
 use Rattle.std.specs.Prelude.{◌≡◌, refl, ℕ, Bool, List, [], ◌∷◌, ◌++◌, Option, Result, Err}
-use Rattle.std.proofs.Common.{ap, ap₂, sym, ◌∙◌, subst}
+use Rattle.std.proofs.Common.{ap, sym, ◌∙◌, subst}
 use Rattle.ls_ast.specs.declared.tree.BodyOf.{BodyOf}
 use Rattle.ls_ast.specs.declared.tree.DefOf.{DefOf}
 use Rattle.ls_ast.specs.declared.tree.DefOf.TheVariants as d
@@ -52,8 +52,8 @@ module _ (case_type : ℕ → Option TypeTerm) (limit : ℕ) where
       → IsTyped case_type limit sigs def (d.Let line node name params' marks' rn rb)
   typed_let sigs def line node name params params' marks marks' notes body rn rb is p_is m_is typed =
       subst (λ z. IsTyped case_type limit sigs z (d.Let line node name params' marks' rn rb)) (sym is) (λ functions.
-        let t = typed functions in
-        (t.0, t.1, (λ i. d.Let line node name (p_is i) (m_is i) rn rb) ∙ ap (λ (a : Definition TypeNote). d.Let line node name a.params a.marks a.notes a.body) t.2))
+      let t = typed functions in
+      (t.0, t.1, (λ i. d.Let line node name (p_is i) (m_is i) rn rb) ∙ ap (λ (a : Definition TypeNote). d.Let line node name a.params a.marks a.notes a.body) t.2))
 
   -- where definitions are judged, there is an annotated one in each place
   in_place_let : (sigs : List Sig) (ds : List (DefOf Use)) (as' : List (LetOf TypeNote)) (ss : List Sig) (x : LetOf Use) (a : LetOf TypeNote) → Judged case_type limit sigs (lets ds) as' ss

@@ -1,18 +1,15 @@
 -- The types of a file, definition by definition.
-use Rattle.std.specs.Prelude.{◌≡◌, ℕ, List, [], ◌∷◌, ◌++◌, Option}
+use Rattle.std.specs.Prelude.{◌≡◌, ℕ, List, ◌∷◌, ◌++◌, Option}
 use Rattle.ls_ast.specs.declared.tree.DefOf.{DefOf}
 use Rattle.ls_ast.specs.declared.tree.DefOf.TheVariants as d
-use Rattle.ls_ast.specs.declared.tree.FileOf.{FileOf}
 use Rattle.ls_base.specs.declared.Line.{Line}
 use Rattle.ls_sig.specs.declared.binder.TypeNote.{TypeNote}
 use Rattle.ls_sig.specs.declared.binder.Use.{Use}
-use Rattle.ls_sig.specs.declared.env.Env.{Env}
 use Rattle.ls_sig.specs.declared.sigs.Sig.{Sig}
 use Rattle.ls_terms.specs.declared.types.TypeTerm.{TypeTerm}
-use Rattle.type_infer.specs.Constructors.{case_type}
-use Rattle.type_infer.specs.Inference.{IsPrincipalOf, NoneObeys}
+use Rattle.type_infer.specs.Inference.{NoneObeys}
 use Rattle.type_rules.specs.Definitions.{Definition}
-use Rattle.type_rules.specs.Files.{LetOf, Judged, Illtyped, Typed, annotation, lets, in_place}
+use Rattle.type_rules.specs.Files.{LetOf, Judged, Typed, lets, in_place}
 use Rattle.type_rules.specs.Laws.{AreFunctionsIn, annotated_let}
 
 -- an annotated definition as one of a file

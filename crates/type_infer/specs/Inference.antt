@@ -8,7 +8,6 @@ use Rattle.ls_terms.specs.declared.types.TypeTerm.{TypeTerm}
 use Rattle.ls_terms.specs.Types.{apply}
 use Rattle.term_unify.specs.Terms.{first}
 use Rattle.type_infer.specs.declared.definition.Let.{Let}
-use Rattle.type_infer.specs.declared.trees.Annotated.{Annotated}
 use Rattle.type_rules.specs.Definitions.{Definition}
 use Rattle.type_rules.specs.Demands.{hole}
 use Rattle.type_rules.specs.Files.{annotation, ObeysIn, Small, Typed}

@@ -62,11 +62,7 @@ fn earlier_table(
 
 /// One more definition of a file, where the next enumeration has the number k. Answers the number
 /// after it.
-fn add_definition(
-    k: u32,
-    def: &DefOf<Use>,
-    table: &mut IndexMap<u32, u32>,
-) -> Result<u32, NoMemory>
+fn add_definition(k: u32, def: &DefOf<Use>, table: &mut IndexMap<u32, u32>) -> Result<u32, NoMemory>
     ensures next { IfOk result (λ r. r ≡ spec.next_enumeration k def.now) }
     ensures table { OnOk result (spec.DefinitionMore k def.now table.old table.new) }
 {
@@ -80,11 +76,7 @@ fn add_definition(
 }
 
 /// The enumerations of a file, numbered from a number on.
-fn own_table(
-    alloc: Global,
-    first: u32,
-    defs: &[DefOf<Use>],
-) -> Result<IndexMap<u32, u32>, NoMemory>
+fn own_table(alloc: Global, first: u32, defs: &[DefOf<Use>]) -> Result<IndexMap<u32, u32>, NoMemory>
     ensures { IfOk result (λ r. (x : ℕ) → get nat_eq r x ≡ enumeration_of first defs.now x) }
 {
     let mut table = IndexMap::new(alloc);

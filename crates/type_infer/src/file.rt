@@ -81,14 +81,7 @@ fn add_signature(alloc: Global, def: &DefOf<TypeNote>, sigs: &mut List<Sig>) -> 
             notes,
             body,
             ..
-        } => sigs.push(signature(
-            alloc,
-            *node,
-            *name,
-            marks,
-            notes.as_slice(),
-            body,
-        )?),
+        } => sigs.push(signature(alloc, *node, *name, marks, notes.as_slice(), body)?),
     }
 }
 

@@ -11,4 +11,3 @@ mod trees;
 
 pub use fault::TypeFault;
 pub use file::{infer_types, infer_types_after};
-
