@@ -1,0 +1,59 @@
+-- What the laws of clocks suppose of a definition, and what its scope gives.
+use Rattle.std.specs.Prelude.{◌≡◌, ℕ, List, [], ◌∷◌, ◌++◌, length, Option, Some, None}
+use Rattle.ls_ast.specs.declared.tree.BodyOf.{BodyOf}
+use Rattle.ls_ast.specs.declared.tree.DefOf.{DefOf}
+use Rattle.ls_ast.specs.declared.tree.DefOf.TheVariants as item
+use Rattle.ls_ast.specs.declared.tree.Form.TheOpen.{Form-F}
+use Rattle.ls_ast.specs.declared.tree.Plain.{Plain}
+use Rattle.ls_sig.specs.declared.binder.Binder.{Binder}
+use Rattle.ls_sig.specs.declared.binder.Binder.TheVariants as b
+use Rattle.ls_sig.specs.declared.binder.Note.{Note}
+use Rattle.ls_sig.specs.declared.binder.Use.{Use}
+use Rattle.ls_places.specs.Search.{nth}
+use Rattle.tree_notes.specs.Each.{Each}
+use Rattle.tree_notes.specs.Noted.{in_body}
+use Rattle.scope_rules.specs.declared.claims.Earlier.{Earlier}
+use Rattle.scope_rules.specs.Faults.{Judged, fault, marks}
+use Rattle.scope_rules.specs.Resolved.{resolved_body}
+use Rattle.clock_rules.specs.declared.scheme.ClockScheme.{ClockScheme}
+use Rattle.clock_rules.specs.Facts.{Facts}
+use Rattle.clock_rules.specs.Files.{clock_marks}
+use Rattle.clock_rules.specs.Fresh.{facts_of}
+use Rattle.clock_rules.specs.Layers.{Layer}
+use Rattle.clock_laws.specs.Scoped.{IsScoped}
+
+-- the note of a resolved tree
+abbrev pub use_of : Note → Use
+use_of n = record { bound = n.bound }
+
+-- the clock names of each earlier definition's scheme are its parameters that are marked so
+abbrev pub SchemesOf : List Earlier → List ClockScheme → Type 0
+SchemesOf [] [] = Unit {0}
+SchemesOf (e ∷ es) (s ∷ ss) = (s.names ≡ clock_marks e.marks 0) × SchemesOf es ss
+SchemesOf _ _ = ⊥
+
+-- That something is given at each Clock position follows from types, and not from scope.
+module _ (schemes : List ClockScheme) where
+  abbrev pub Given : List Note → Option ClockScheme → Type 0
+  Given args None = Unit {0}
+  Given args (Some s) = Each (λ q. nth args q ≡ None → ⊥) s.names
+
+  abbrev pub CallGiven : List Note → Binder → Type 0
+  CallGiven args (b.Def k) = Given args (nth schemes k)
+  CallGiven args _ = Unit {0}
+
+  abbrev pub FormGiven : Note → Form-F Note (Unit {0}) Note → Type 0
+  FormGiven n (Form-F.Var x) = CallGiven [] n.bound
+  FormGiven n (Form-F.Call run x args every) = CallGiven args n.bound
+  FormGiven n _ = Unit {0}
+
+  abbrev pub AllGiven : Facts Note → Type 0
+  AllGiven d = Each (λ n. FormGiven n.0.note n.0.form) d.nodes
+
+-- What the laws of clocks suppose of an annotated definition holds where its scope has no fault and something is given at each Clock position.
+abbrev pub ScopedByScope : Type 0
+ScopedByScope =
+    (d : Judged Plain) (schemes : List ClockScheme) (cases : ℕ → Option ℕ) (notes : List Note) (body : BodyOf Note)
+    → fault d ≡ None → SchemesOf d.known.defs schemes → length notes ≡ length d.params → in_body Note Use use_of body ≡ resolved_body d
+    → AllGiven schemes (facts_of schemes cases d.params (marks d) notes body)
+    → IsScoped schemes (facts_of schemes cases d.params (marks d) notes body)
