@@ -1,3 +1,4 @@
 mod Lists
 mod Walk
 mod Sites
+mod Conditions

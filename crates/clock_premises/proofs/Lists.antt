@@ -48,6 +48,14 @@ pub each_both : {A : Type 0} (Q : A → Type 0) (xs ys : List A) → Each Q xs �
 each_both Q [] ys a b = b
 each_both Q (x ∷ xs) ys a b = (a.0, each_both Q xs ys a.1 b)
 
+pub each_left : {A : Type 0} (Q : A → Type 0) (xs ys : List A) → Each Q (xs ++ ys) → Each Q xs
+each_left Q [] ys a = tt
+each_left Q (x ∷ xs) ys a = (a.0, each_left Q xs ys a.1)
+
+pub each_right : {A : Type 0} (Q : A → Type 0) (xs ys : List A) → Each Q (xs ++ ys) → Each Q ys
+each_right Q [] ys a = a
+each_right Q (x ∷ xs) ys a = each_right Q xs ys a.1
+
 pub each_weaker : {A : Type 0} (Q Q' : A → Type 0) (xs : List A) → ((x : A) → Q x → Q' x) → Each Q xs → Each Q' xs
 each_weaker Q Q' [] f h = tt
 each_weaker Q Q' (x ∷ xs) f h = (f x h.0, each_weaker Q Q' xs f h.1)
