@@ -157,8 +157,8 @@ module _ (schemes : List ClockScheme) (d : Facts Note) (function : Note → Bool
       let there : OK (at_marks ms 0 (claims_in ps)) = subst OK (later_marks m ms 0 (claims_in ps)) (ok_right (p.0 (at m)) (at_marks (m ∷ ms) 1 (claims_in ps)) h) in
       each_if (Something all) (Named all) (is_clock_mark m) k (clock_marks ms (suc k)) given
       (λ e some.
-          let z : k + 0 ≡ k = omega arith in
-          subst (IsNameAt schemes d) (sym (ap (nth all) (sym z) ∙ same 0)) (p.2.name (subst (λ m. OK (p.0 (at m))) (clock_is m e) here)))
+      let z : k + 0 ≡ k = omega arith in
+      subst (IsNameAt schemes d) (sym (ap (nth all) (sym z) ∙ same 0)) (p.2.name (subst (λ m. OK (p.0 (at m))) (clock_is m e) here)))
       (λ g. marks_named ms ps all (suc k) (λ i. let z : suc k + i ≡ k + suc i = omega arith in ap (nth all) z ∙ same (suc i)) there g)
 
   abbrev claims_if : Option Part → Option Claims
@@ -414,48 +414,58 @@ module _ (schemes : List ClockScheme) (d : Facts Note) (function : Note → Bool
       (record { layers = λ s c. ((λ g. tt), as_streams (exprs ps) h.0 (ok_right (proper s) cs c)); name = λ c. absurd (no_proper cs c) }, h.1)
   layer (Form-F.Pre p) n r r' e =
       let h = p.1 r r' (ap rest e) in
-      let cs = claims defs bound p.0 stream in
-      (record {
-        layers = λ s c. ((λ g. tt), one_layer p.0 h.0 (ok_right (proper s) cs (ok_rest timed (proper s ++ cs) c)));
-        name = λ c. absurd (no_proper cs (ok_rest timed (proper (at mark.Clock) ++ cs) c));
-      }, h.1)
+      let cs = claims defs bound p.0 stream in (
+        record {
+          layers = λ s c. ((λ g. tt), one_layer p.0 h.0 (ok_right (proper s) cs (ok_rest timed (proper s ++ cs) c)));
+          name = λ c. absurd (no_proper cs (ok_rest timed (proper (at mark.Clock) ++ cs) c));
+        },
+        h.1,
+      )
   layer (Form-F.Fby p q) n r r' e =
       let h = p.1 _ _ (regroup use_of (Or.notes Note p.0) (Or.notes Note q.0) (uses bound cases p.0) (uses bound cases q.0) r r' (ap rest e)) in
       let g = q.1 r r' h.1 in
-      let cs = claims defs bound p.0 stream ++ claims defs bound q.0 stream in
-      (record {
-        layers = λ s c. ((λ g. tt), two_layers p.0 q.0 h.0 g.0 (ok_right (proper s) cs (ok_rest timed (proper s ++ cs) c)));
-        name = λ c. absurd (no_proper cs (ok_rest timed (proper (at mark.Clock) ++ cs) c));
-      }, g.1)
+      let cs = claims defs bound p.0 stream ++ claims defs bound q.0 stream in (
+        record {
+          layers = λ s c. ((λ g. tt), two_layers p.0 q.0 h.0 g.0 (ok_right (proper s) cs (ok_rest timed (proper s ++ cs) c)));
+          name = λ c. absurd (no_proper cs (ok_rest timed (proper (at mark.Clock) ++ cs) c));
+        },
+        g.1,
+      )
   layer (Form-F.Init p q) n r r' e =
       let h = p.1 _ _ (regroup use_of (Or.notes Note p.0) (Or.notes Note q.0) (uses bound cases p.0) (uses bound cases q.0) r r' (ap rest e)) in
       let g = q.1 r r' h.1 in
-      let cs = claims defs bound p.0 stream ++ claims defs bound q.0 stream in
-      (record {
-        layers = λ s c. ((λ g. tt), two_layers p.0 q.0 h.0 g.0 (ok_right (proper s) cs (ok_rest timed (proper s ++ cs) c)));
-        name = λ c. absurd (no_proper cs (ok_rest timed (proper (at mark.Clock) ++ cs) c));
-      }, g.1)
+      let cs = claims defs bound p.0 stream ++ claims defs bound q.0 stream in (
+        record {
+          layers = λ s c. ((λ g. tt), two_layers p.0 q.0 h.0 g.0 (ok_right (proper s) cs (ok_rest timed (proper s ++ cs) c)));
+          name = λ c. absurd (no_proper cs (ok_rest timed (proper (at mark.Clock) ++ cs) c));
+        },
+        g.1,
+      )
   layer (Form-F.When p x c') n r r' e =
       let h = p.1 r r' (ap rest e) in
       let is : n.bound ≡ bound x.0 = note_is n (bound x.0) _ _ e in
       let cs = claims defs bound p.0 stream in
       let one = claim_of bound x.0 (at mark.Clock) in
-      let after : Claims = λ s. case_claims c' ++ (proper s ++ cs) in
-      (record {
-        layers = λ s c. let k = ok_rest timed (one ∷ after s) c in ((λ g. subst Is (sym is) (condition x.0 (ok_first one (after s) k))), one_layer p.0 h.0 (ok_right (proper s) cs (case_rest c' (proper s ++ cs) (ok_rest one (after s) k))));
-        name = λ c. absurd (no_proper cs (case_rest c' (proper (at mark.Clock) ++ cs) (ok_rest one (after (at mark.Clock)) (ok_rest timed (one ∷ after (at mark.Clock)) c))));
-      }, h.1)
+      let after : Claims = λ s. case_claims c' ++ (proper s ++ cs) in (
+        record {
+          layers = λ s c. let k = ok_rest timed (one ∷ after s) c in ((λ g. subst Is (sym is) (condition x.0 (ok_first one (after s) k))), one_layer p.0 h.0 (ok_right (proper s) cs (case_rest c' (proper s ++ cs) (ok_rest one (after s) k))));
+          name = λ c. absurd (no_proper cs (case_rest c' (proper (at mark.Clock) ++ cs) (ok_rest one (after (at mark.Clock)) (ok_rest timed (one ∷ after (at mark.Clock)) c))));
+        },
+        h.1,
+      )
   layer (Form-F.Merge x ps) n r r' e =
       let h = choice_parts ps r r' (ap rest e) in
       let is : n.bound ≡ bound x.0 = note_is n (bound x.0) _ _ e in
       let bs : List (Case × Claims) = claim_choices (choices ps) in
       let one = claim_of bound x.0 (at mark.Clock) in
       let two = branches (C.cases_of bs) in
-      let after : Claims = λ s. proper s ++ all_branches bs in
-      (record {
-        layers = λ s c. let k = ok_rest timed (one ∷ two ∷ after s) c in ((λ g. subst Is (sym is) (condition x.0 (ok_first one (two ∷ after s) k))), as_branches (choices ps) h.0 (ok_right (proper s) (all_branches bs) (ok_rest two (after s) (ok_rest one (two ∷ after s) k))));
-        name = λ c. absurd (no_proper (all_branches bs) (ok_rest two (after (at mark.Clock)) (ok_rest one (two ∷ after (at mark.Clock)) (ok_rest timed (one ∷ two ∷ after (at mark.Clock)) c))));
-      }, h.1)
+      let after : Claims = λ s. proper s ++ all_branches bs in (
+        record {
+          layers = λ s c. let k = ok_rest timed (one ∷ two ∷ after s) c in ((λ g. subst Is (sym is) (condition x.0 (ok_first one (two ∷ after s) k))), as_branches (choices ps) h.0 (ok_right (proper s) (all_branches bs) (ok_rest two (after s) (ok_rest one (two ∷ after s) k))));
+          name = λ c. absurd (no_proper (all_branches bs) (ok_rest two (after (at mark.Clock)) (ok_rest one (two ∷ after (at mark.Clock)) (ok_rest timed (one ∷ two ∷ after (at mark.Clock)) c))));
+        },
+        h.1,
+      )
   layer (Form-F.Call run x ps None) n r r' e =
       let h = parts ps _ _ (regroup use_of (Or.joined (map (Or.notes Note) (exprs ps))) [] (joined_uses (map (uses bound cases) (exprs ps))) [] r r' (ap rest e)) in
       (call_none n run x (exprs ps) h.0 (ap (λ l. (first_or (use_of n) l).bound) e), h.1)

@@ -1,4 +1,5 @@
-mod Lists
-mod Walk
-mod Sites
 mod Conditions
+mod Lists
+mod Scope
+mod Sites
+mod Walk

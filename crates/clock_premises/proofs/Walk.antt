@@ -562,32 +562,32 @@ module _ (schemes : List ClockScheme) (d : Facts Note) (cases : ℕ → Option �
       numbered (λ k. P.arms_from Note k 0 (P.state_walks Note (map {A = T5} {B = P.AState Note} (λ p. p.0) all)) w f1) f g g3 (At w v)
       (record { vars = t.0.vars; names = record { list = named.Active strong p ∷ named.Tested weak p ∷ more; is = is3 } })
       (λ a pre h.
-          let pre2 : Prefix g2.names = (pre.0, pre.1 ∙ ap (λ z. map opens z ++ pre.0) is3 ∙ ap (λ z. z ++ pre.0) (same_kinds g.names more strong weak [] [] p) ∙ ap (λ z. map opens z ++ pre.0) (sym is2')) in
-          let pre1 : Prefix g1.names = prefix_back g1.names g2.names t.0.names pre2 in
-          let b1 : Block m = new_block g.names (named.Active [] p) refl (prefix_back g0.names g1.names (more_one g0.names (named.Tested [] p)) pre1) in
-          let long : first + length g0.names ≡ m + 1 = (let l = length_end g.names (named.Active [] p) in omega (arith, l)) in
-          let b2 : Block (m + 1) = subst Block long (new_block g0.names (named.Tested [] p) refl pre1) in
-          let up : Grown g g1 = record { vars = more_none g.vars; names = record { list = named.Active [] p ∷ named.Tested [] p ∷ []; is = append_assoc g.names (named.Active [] p ∷ []) (named.Tested [] p ∷ []) } } in
-          let h1 : Good f1 g1 = record {
-            next = two_counted f.next first g.names (named.Active [] p) (named.Tested [] p) h.next;
-            clocks = each_weaker (Clocked g) (Clocked g1) f.sites (clocked_grown g g1 up) h.clocks;
-            exprs = h.exprs;
-            sites = h.sites;
-            names = subst Names (sym (append_assoc g.names (named.Active [] p ∷ []) (named.Tested [] p ∷ []))) (names_on g.names (named.Active [] p ∷ named.Tested [] p ∷ []) h.names tt);
-          } in
-          let h2 = t.1 (b1, b2, a) pre2 h1 in
-          let inside : Names more = names_after g.names (named.Active [] p ∷ named.Tested [] p ∷ more) h.names (subst Names is2' h2.names) in
-          record {
-            next = h2.next ∙ ap (λ z. first + length z) is2' ∙ ap (λ z. first + z) (same_length g.names more [] [] strong weak p) ∙ ap (λ z. first + length z) (sym is3);
-            clocks = each_weaker (Clocked g2) (Clocked g3) _ (λ s c e. let q = c e in record {
-              number = q.number;
-              is = q.is;
-              named = ap (list_any (is_clock_of q.number)) is3 ∙ same_clocks q.number g.names more strong weak [] [] p ∙ ap (list_any (is_clock_of q.number)) (sym is2') ∙ q.named;
-            }) h2.clocks;
-            exprs = h2.exprs;
-            sites = h2.sites;
-            names = subst Names (sym is3) (names_on g.names (named.Active strong p ∷ named.Tested weak p ∷ more) h.names inside);
-          })
+      let pre2 : Prefix g2.names = (pre.0, pre.1 ∙ ap (λ z. map opens z ++ pre.0) is3 ∙ ap (λ z. z ++ pre.0) (same_kinds g.names more strong weak [] [] p) ∙ ap (λ z. map opens z ++ pre.0) (sym is2')) in
+      let pre1 : Prefix g1.names = prefix_back g1.names g2.names t.0.names pre2 in
+      let b1 : Block m = new_block g.names (named.Active [] p) refl (prefix_back g0.names g1.names (more_one g0.names (named.Tested [] p)) pre1) in
+      let long : first + length g0.names ≡ m + 1 = (let l = length_end g.names (named.Active [] p) in omega (arith, l)) in
+      let b2 : Block (m + 1) = subst Block long (new_block g0.names (named.Tested [] p) refl pre1) in
+      let up : Grown g g1 = record { vars = more_none g.vars; names = record { list = named.Active [] p ∷ named.Tested [] p ∷ []; is = append_assoc g.names (named.Active [] p ∷ []) (named.Tested [] p ∷ []) } } in
+      let h1 : Good f1 g1 = record {
+        next = two_counted f.next first g.names (named.Active [] p) (named.Tested [] p) h.next;
+        clocks = each_weaker (Clocked g) (Clocked g1) f.sites (clocked_grown g g1 up) h.clocks;
+        exprs = h.exprs;
+        sites = h.sites;
+        names = subst Names (sym (append_assoc g.names (named.Active [] p ∷ []) (named.Tested [] p ∷ []))) (names_on g.names (named.Active [] p ∷ named.Tested [] p ∷ []) h.names tt);
+      } in
+      let h2 = t.1 (b1, b2, a) pre2 h1 in
+      let inside : Names more = names_after g.names (named.Active [] p ∷ named.Tested [] p ∷ more) h.names (subst Names is2' h2.names) in
+      record {
+        next = h2.next ∙ ap (λ z. first + length z) is2' ∙ ap (λ z. first + z) (same_length g.names more [] [] strong weak p) ∙ ap (λ z. first + length z) (sym is3);
+        clocks = each_weaker (Clocked g2) (Clocked g3) _ (λ s c e. let q = c e in record {
+          number = q.number;
+          is = q.is;
+          named = ap (list_any (is_clock_of q.number)) is3 ∙ same_clocks q.number g.names more strong weak [] [] p ∙ ap (list_any (is_clock_of q.number)) (sym is2') ∙ q.named;
+        }) h2.clocks;
+        exprs = h2.exprs;
+        sites = h2.sites;
+        names = subst Names (sym is3) (names_on g.names (named.Active strong p ∷ named.Tested weak p ∷ more) h.names inside);
+      })
 
   step1 : (y : Equation-F Note T1 T2 T3 T4 T5 T6) → R1 (s1 (lefts_Equation s1 s2 s3 s4 s5 s6 t1 t2 t3 t4 t5 t6 R1 R2 R3 R4 R5 R6 y)) (t1 (rights_Equation s1 s2 s3 s4 s5 s6 t1 t2 t3 t4 t5 t6 R1 R2 R3 R4 R5 R6 y))
   step1 (Equation-F.Plain p e) w v f g =

@@ -1,3 +1,4 @@
-//! What the judgement on clocks supposes of a definition, which its scope gives.
+//! What the laws of clocks suppose of a definition, which its scope gives.
 #![tactic(auto)]
 
+pub mod laws;
