@@ -1,4 +1,6 @@
 mod Conditions
+mod Given
+mod GivenBodies
 mod Lists
 mod Scope
 mod Sites

@@ -8,7 +8,12 @@ use Rattle.ls_ast.specs.declared.tree.Plain.{Plain}
 use Rattle.ls_sig.specs.declared.binder.Binder.{Binder}
 use Rattle.ls_sig.specs.declared.binder.Binder.TheVariants as b
 use Rattle.ls_sig.specs.declared.binder.Note.{Note}
+use Rattle.ls_sig.specs.declared.binder.TypeNote.{TypeNote}
 use Rattle.ls_sig.specs.declared.binder.Use.{Use}
+use Rattle.ls_sig.specs.declared.sigs.Sig.{Sig}
+use Rattle.ls_terms.specs.declared.types.TypeTerm.{TypeTerm}
+use Rattle.ls_places.specs.declared.places.Variable.{Variable}
+use Rattle.type_rules.specs.Definitions.{Definition, Obeys}
 use Rattle.ls_places.specs.Search.{nth}
 use Rattle.tree_notes.specs.Each.{Each}
 use Rattle.tree_notes.specs.Noted.{in_body}
@@ -18,7 +23,7 @@ use Rattle.scope_rules.specs.Resolved.{resolved_body}
 use Rattle.clock_rules.specs.declared.scheme.ClockScheme.{ClockScheme}
 use Rattle.clock_rules.specs.Facts.{Facts}
 use Rattle.clock_rules.specs.Files.{clock_marks}
-use Rattle.clock_rules.specs.Fresh.{facts_of}
+use Rattle.clock_rules.specs.Fresh.{erase, facts_of}
 use Rattle.clock_rules.specs.Layers.{Layer}
 use Rattle.clock_laws.specs.Scoped.{IsScoped}
 
@@ -49,6 +54,19 @@ module _ (schemes : List ClockScheme) where
 
   abbrev pub AllGiven : Facts Note → Type 0
   AllGiven d = Each (λ n. FormGiven n.0.note n.0.form) d.nodes
+
+-- the same of signatures, which have a mark for each parameter
+abbrev pub SchemesOfSigs : List Sig → List ClockScheme → Type 0
+SchemesOfSigs [] [] = Unit {0}
+SchemesOfSigs (g ∷ gs) (s ∷ ss) = (s.names ≡ clock_marks g.marks 0) × (length g.marks ≡ length g.params) × SchemesOfSigs gs ss
+SchemesOfSigs _ _ = ⊥
+
+-- Where a definition obeys the rules of types something is given at each Clock position.
+abbrev pub GivenByTypes : Type 0
+GivenByTypes =
+    (schemes : List ClockScheme) (sigs : List Sig) (case_type : ℕ → Option TypeTerm) (vs : List Variable) (at : ℕ → TypeTerm) (a : Definition TypeNote) (cases : ℕ → Option ℕ) (notes : List Note) (body : BodyOf Note)
+    → SchemesOfSigs sigs schemes → in_body Note TypeNote erase body ≡ a.body → Obeys sigs case_type vs at a
+    → AllGiven schemes (facts_of schemes cases a.params a.marks notes body)
 
 -- What the laws of clocks suppose of an annotated definition holds where its scope has no fault and something is given at each Clock position.
 abbrev pub ScopedByScope : Type 0
