@@ -1,4 +1,5 @@
 mod Conditions
+mod Files
 mod Given
 mod GivenBodies
 mod Lists
