@@ -59,82 +59,10 @@ use Rattle.type_premises.proofs.Uses.{Facts}
 use Rattle.type_premises.proofs.Expressions.{SameHead, expr_facts}
 use Rattle.type_premises.proofs.Bodies.{Asked, body_asked}
 use Rattle.type_premises.proofs.Marks.{marked}
-
--- the notes of an expression with other notes
-
-module _ {N M : Type 0} (g : N → M) where
-  abbrev Twin : List M → List N → Type 0
-  Twin a b = a ≡ map g b
-
-  abbrev Two : Type 0
-  Two = (a : List M) × (b : List N) × Twin a b
-
-  abbrev s : Form-F M (List M) (List M) → List M
-  s = Or.form_notes M
-
-  abbrev s' : Expr-F M (List M) (List M) → List M
-  s' = Or.expr_notes M
-
-  abbrev t : Form-F N (List N) (List N) → List N
-  t = Or.form_notes N
-
-  abbrev t' : Expr-F N (List N) (List N) → List N
-  t' = Or.expr_notes N
-
-  both : (a b : Two) → a.0 ++ b.0 ≡ map g (a.1 ++ b.1)
-  both a b = ap₂ (λ x y. x ++ y) a.2 b.2 ∙ sym (map_on g a.1 b.1)
-
-  all_noted : (ps : List Two) → Or.joined (map {A = Two} {B = List M} (λ p. p.0) ps) ≡ map g (Or.joined (map {A = Two} {B = List N} (λ p. p.1) ps))
-  all_noted [] = refl
-  all_noted (p ∷ ps) = both p (Or.joined (map {A = Two} {B = List M} (λ p. p.0) ps), Or.joined (map {A = Two} {B = List N} (λ p. p.1) ps), all_noted ps)
-
-  choices_noted : (ps : List (Case × Two)) → Or.choices_joined (map {A = Case × Two} {B = Case × List M} (λ c. (c.0, c.1.0)) ps) ≡ map g (Or.choices_joined (map {A = Case × Two} {B = Case × List N} (λ c. (c.0, c.1.1)) ps))
-  choices_noted [] = refl
-  choices_noted (p ∷ ps) = both p.1 (Or.choices_joined (map {A = Case × Two} {B = Case × List M} (λ c. (c.0, c.1.0)) ps), Or.choices_joined (map {A = Case × Two} {B = Case × List N} (λ c. (c.0, c.1.1)) ps), choices_noted ps)
-
-  layer : (y : Form-F N Two Two) → Twin (s (Re.lefts g s s' t t' Twin Twin y)) (t (Re.rights g s s' t t' Twin Twin y))
-  layer (Form-F.Leaf l) = refl
-  layer (Form-F.Case c) = refl
-  layer (Form-F.Var x) = refl
-  layer (Form-F.Last x) = refl
-  layer (Form-F.Asked x) = refl
-  layer (Form-F.Op op args) = all_noted args
-  layer (Form-F.Tuple parts) = all_noted parts
-  layer (Form-F.Pre e) = e.2
-  layer (Form-F.Fby a b) = both a b
-  layer (Form-F.Init a b) = both a b
-  layer (Form-F.When e x c) = e.2
-  layer (Form-F.Merge x bs) = choices_noted bs
-  layer (Form-F.Call run x args None) = both (Or.joined (map {A = Two} {B = List M} (λ p. p.0) args), Or.joined (map {A = Two} {B = List N} (λ p. p.1) args), all_noted args) ([], [], refl)
-  layer (Form-F.Call run x args (Some e)) = both (Or.joined (map {A = Two} {B = List M} (λ p. p.0) args), Or.joined (map {A = Two} {B = List N} (λ p. p.1) args), all_noted args) e
-
-  notes_noted : (e : Expr N) → Or.notes M (Re.noted g e) ≡ map g (Or.notes N e)
-  notes_noted = Re.related g s s' t t' Twin Twin layer (λ n p. ap (λ z. g n ∷ z) p.2)
-
--- what scope asks of a body with other notes
-
-module _ {N M : Type 0} (g : N → M) where
-  asked_same : (h : Sight) (r : P.Reading N) → asked_by h (O.told g r) ≡ asked_by h r
-  asked_same h (reads e s p) = ap (λ (c : Stand → List Claim). record { claims = c s; place = p }) (claims_same g h.defs (binder_at h p) e)
-  asked_same h (tests x p) = refl
-
-  all_asked : (h : Sight) (rs : List (P.Reading N)) → map (asked_by h) (map (O.told g) rs) ≡ map (asked_by h) rs
-  all_asked h [] = refl
-  all_asked h (r ∷ rs) = ap₂ (λ a b. a ∷ b) (asked_same h r) (all_asked h rs)
+use Rattle.type_premises.proofs.Trees.{NotesAre, readings, asks_same, all_notes}
 
 abbrev use_note : Placed → Use
 use_note n = n.0
-
--- the notes of each expression are the binders of its names
-abbrev NotesAre : Sight → C.Known → P.Reading Placed → Type 0
-NotesAre h k (reads e s p) = map use_note (Or.notes Placed e) ≡ uses (binder_at h p) (R.case_of k) e
-NotesAre h k (tests x p) = Unit {0}
-
-notes_are : (h : Sight) (k : C.Known) (rs : List (P.Reading Placed)) → Each (λ (x : Expr Use × Place). Or.notes Use x.0 ≡ uses (binder_at h x.1) (R.case_of k) x.0) (placed_exprs (map (O.told use_note) rs))
-    → Each (NotesAre h k) rs
-notes_are h k [] a = tt
-notes_are h k (reads e s p ∷ rs) a = (sym (notes_noted use_note e) ∙ a.0 ∙ uses_same use_note (binder_at h p) (R.case_of k) e, notes_are h k rs a.1)
-notes_are h k (tests x p ∷ rs) a = (tt, notes_are h k rs a)
 
 -- earlier definitions, as scope and as types see them
 abbrev pub Heads : List Earlier → List Sig → Type 0
@@ -190,42 +118,18 @@ module _ (case_type : ℕ → Option TypeTerm) (sigs : List Sig) (d : Judged Pla
       ∙ (Nb.body_good Placer Use Use Placed (λ n. n) place_step place_next use_note (R.resolved_body d) state (always (Or.notes_body Use (R.resolved_body d)) state)).0
 
   abbrev rs : List (P.Reading Placed)
-  rs = (P.contents_of Placed first X.body).readings
-
-  readings_same : (P.contents_of Use first (R.resolved_body d)).readings ≡ map (O.told use_note) rs
-  readings_same = ap (λ z. (P.contents_of Use first z).readings) (sym without) ∙ ap (λ (c : P.Contents Use). c.readings) (O.body_same use_note first X.body)
-
-  asks_same : F.asks d ≡ map (asked_by h) rs
-  asks_same =
-      ap (λ (c : P.Contents Plain). map (asked_by h) c.readings) (A.contents_same d)
-      ∙ all_asked A.erase h (P.contents_of Use first (R.resolved_body d)).readings
-      ∙ ap (map (asked_by h)) readings_same
-      ∙ all_asked use_note h rs
-
-  all_notes : Each (NotesAre h d.known) rs
-  all_notes =
-      let Q : Expr Use × Place → Type 0 = λ x. Or.notes Use x.0 ≡ uses (binder_at h x.1) (R.case_of d.known) x.0 in
-      let cases : ℕ → Option ℕ = λ x. None in
-      let signal : Expr Use → Bool = λ e. false in
-      let ws : List (Whole Use) = (found.find Use first cases signal (R.resolved_body d)).exprs in
-      notes_are h d.known rs (subst (λ z. Each Q (placed_exprs z)) readings_same
-      (subst (Each Q) (sym (exprs_alike Use first cases signal (R.resolved_body d)))
-      (mapped whole_key Q ws (each_weaker (Noted d) (λ w. Q (whole_key w)) ws (λ w n. n.as_uses) (notes_in_sight d cases signal)))))
-    where
-      mapped : {A B : Type 0} (f : A → B) (Q : B → Type 0) (xs : List A) → Each (λ x. Q (f x)) xs → Each Q (map f xs)
-      mapped f Q [] a = tt
-      mapped f Q (x ∷ xs) a = (a.0, mapped f Q xs a.1)
+  rs = readings use_note d X.body without
 
   module _ (f : ℕ → TypeTerm) (k : ℕ) (known : types (binder.Param k) ≡ Some k) where
     abbrev said : Expr Placed → Reading ℕ
     said = B.said Placed ℕ bound_of place_of sigs case_type names marks vs types
 
-    facts : (e : Expr Placed) (s : Stand) (p : Place) → NotesAre h d.known (reads e s p) → Facts f k k (claims h.defs (binder_at h p) e) (said e)
+    facts : (e : Expr Placed) (s : Stand) (p : Place) → NotesAre use_note h d.known (reads e s p) → Facts f k k (claims h.defs (binder_at h p) e) (said e)
     facts e s p n = expr_facts sigs case_type marks (λ j. B.is_signal_at Placed ℕ bound_of place_of sigs case_type names marks vs types (slice_get vs j)) types f k k known
         h.defs (head_at h.defs sigs heads) (binder_at h p) (R.case_of d.known) e n
 
     reading_forced : (e : Expr Placed) (s : Stand) (p : Place) → list_any (function_use k) (claims h.defs (binder_at h p) e s) ≡ true
-        → Asked bound_of place_of sigs case_type names marks vs types f (reads e s p) → NotesAre h d.known (reads e s p) → is_data (f k) ≡ true → ⊥
+        → Asked bound_of place_of sigs case_type names marks vs types f (reads e s p) → NotesAre use_note h d.known (reads e s p) → is_data (f k) ≡ true → ⊥
     reading_forced e s p c a n x = either
         (λ q. either (λ m. q.0 m x) (λ m. either (λ m. q.2 m x) (λ m. q.3 m x) m) a.1)
         (λ q. differ (as_function s) a.0 q.0)
@@ -237,7 +141,7 @@ module _ (case_type : ℕ → Option TypeTerm) (sigs : List Sig) (d : Judged Pla
         either (λ e. differ (means && false) (and_false means) e) (λ e. absurd (cc)) (or_cases (means && false) false c)
 
     forced : (all : List (P.Reading Placed)) → any_claim (λ p. function_use k) (map (asked_by h) all) ≡ true
-        → Each (Asked bound_of place_of sigs case_type names marks vs types f) all → Each (NotesAre h d.known) all → is_data (f k) ≡ true → ⊥
+        → Each (Asked bound_of place_of sigs case_type names marks vs types f) all → Each (NotesAre use_note h d.known) all → is_data (f k) ≡ true → ⊥
     forced [] c a n x = absurd (cc)
     forced (reads e s p ∷ all) c a n x = either
         (λ c. reading_forced e s p c a.0 n.0 x)
@@ -260,5 +164,5 @@ module _ (case_type : ℕ → Option TypeTerm) (sigs : List Sig) (d : Judged Pla
       let known : types (binder.Param k) ≡ Some k = ap (λ (b : Bool). if b then Some k else None) (lt-ltb k (length names) l) in
       let z : 0 + k ≡ k = omega arith in
       let used = functions_used k (F.asks d) (subst (λ j. C.is_function (mark_at (F.asks d) j) ≡ true) z (marked (F.asks d) d.params 0 k e)) in
-      forced f k known rs (subst (λ z. any_claim (λ p. function_use k) z ≡ true) asks_same used)
-      (body_asked bound_of place_of sigs case_type names marks vs types f first X.body (of_body f m)) all_notes x
+      forced f k known rs (subst (λ z. any_claim (λ p. function_use k) z ≡ true) (asks_same use_note d X.body without) used)
+      (body_asked bound_of place_of sigs case_type names marks vs types f first X.body (of_body f m)) (all_notes use_note d X.body without) x

@@ -1,8 +1,9 @@
-mod Lists
-mod Uses
-mod Expressions
 mod Bodies
+mod Definition
+mod Expressions
+mod File
+pub mod Lists
 mod Marks
 mod Names
-mod Definition
-mod File
+pub mod Trees
+mod Uses
