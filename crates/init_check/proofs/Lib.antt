@@ -1,0 +1,5 @@
+pub mod Nodes
+pub mod Calls
+pub mod Forms
+pub mod Items
+pub mod Decide
