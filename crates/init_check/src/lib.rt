@@ -10,5 +10,3 @@ mod zeros;
 
 pub use file::{InitFault, check_init, check_init_after};
 
-#[cfg(test)]
-mod probe;
