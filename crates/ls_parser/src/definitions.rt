@@ -22,7 +22,7 @@ use std::alloc::Global;
 use thiserror::Error;
 
 /// Why a file was not parsed.
-#[derive(Debug, Drop, Error)]
+#[derive(Clone, Copy, Debug, PartialEq, Eq, Error)]
 pub enum SyntaxFault {
     /// The tokens are definitions and then others, of which no part at the front is a definition
     /// that `let`, `type` or the end follows. The line is that of the first of these.
