@@ -13,7 +13,7 @@ use Rattle.init_rules.specs.Bits.{own_of}
 use Rattle.init_rules.specs.Flow.{Flow, Sourced, applied_flow, barred_of, call_flow, called_flow, function_flow, head_flow, if_always, owns, reached_of, sourced, sources_of, used_flow, zeros_of}
 use Rattle.init_rules.specs.Nodes.{counts, nodes}
 use Rattle.init_check.specs.Walks as own
-use Rattle.init_check.proofs.Nodes.{all_sources_are, all_zeros_are, barred_are, name_nodes_are, nodes_append, nodes_one, nothing_after, reached_are}
+use Rattle.init_check.proofs.Pushed.{all_sources_are, all_zeros_are, barred_are, name_nodes_are, nodes_append, nodes_one, nothing_after, reached_are}
 
 module _ (d : Definition) (sigs : List InitSig) (p : Place) where
   abbrev given : List E → List Sourced

@@ -18,7 +18,7 @@ use Rattle.init_rules.specs.Flow.{Flow, Sourced, called_flow, every_flow, expr_f
 use Rattle.init_rules.specs.Nodes.{counts, nodes}
 use Rattle.init_check.specs.Walks as own
 use Rattle.init_check.proofs.Calls.{call_zeros_are}
-use Rattle.init_check.proofs.Nodes.{all_sources_are, all_zeros_are, choice_sources_are, choice_zeros_are, choices, last_sources_are, last_zeros_are, name_nodes_are, nodes_append}
+use Rattle.init_check.proofs.Pushed.{all_sources_are, all_zeros_are, choice_sources_are, choice_zeros_are, choices, last_sources_are, last_zeros_are, name_nodes_are, nodes_append}
 
 module _ (d : Definition) (sigs : List InitSig) (p : Place) (n : Note) (f : Form Note) where
   abbrev flow_at : Form Note → Flow

@@ -11,7 +11,7 @@ use Rattle.ls_sig.specs.declared.sigs.InitSig.{InitSig}
 use Rattle.init_rules.specs.Files.{Judged, Let, Uninitialised, data_marks}
 use Rattle.init_rules.proofs.Files.{judged_with_more}
 use Rattle.init_check.specs.Judged.{ItemFails, ItemJudged, lets, no_cases}
-use Rattle.init_check.proofs.Nodes.{nothing_after}
+use Rattle.init_check.proofs.Pushed.{nothing_after}
 
 lets_append : (xs ys : List (DefOf Note)) → lets (xs ++ ys) ≡ lets xs ++ lets ys
 lets_append [] ys = refl

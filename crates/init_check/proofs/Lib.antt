@@ -1,4 +1,4 @@
-pub mod Nodes
+pub mod Pushed
 pub mod Calls
 pub mod Forms
 pub mod Items

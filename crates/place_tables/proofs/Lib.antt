@@ -1,5 +1,5 @@
 pub mod Lists
 pub mod Grouping
 pub mod Lacking
-pub mod Arms
-pub mod Params
+pub mod Inside
+pub mod Holding

@@ -1,6 +1,6 @@
 //! The numbers of items by their keys.
 
-ghost use Rattle.std.specs.Prelude.{◌≡◌, ◌<◌, ◌^◌, IfOk, OnOk, length};
+ghost use Rattle.std.specs.Prelude.{◌≡◌, ◌<◌, ◌≤◌, ◌^◌, IfOk, OnOk, length};
 ghost use Rattle.place_tables.specs.Groups as own;
 
 use indexmap::IndexMap;
@@ -18,7 +18,8 @@ fn ends_with(k: u32, all: &[u32]) -> bool
 
 /// The numbers of the items with a key.
 pub fn group(groups: &IndexMap<u32, List<u32>>, x: u32) -> &[u32]
-    ensures { result.now ≡ own.group groups.now x }
+    ensures value { result.now ≡ own.group groups.now x }
+    ensures few { length result.now ≤ 4294967294 }
 {
     match groups.get(&x) {
         None => &[],

@@ -7,5 +7,6 @@ mod params;
 mod search;
 mod tables;
 
-pub use search::{arms, has_name, nth, starts_with};
+pub use groups::{group, grouped};
+pub use search::{arms, copy_numbers, has_name, nth, starts_with};
 pub use tables::{NumberTables, Tables};

@@ -8,4 +8,4 @@ pub loop-x-preserved : goal.loop-x-preserved
 loop-x-preserved c =
     let d = c.args.d.now in
     all_next (λ x. spec.lacks d (picked d.places.sites (group c.args.sites.now x))) (length d.places.vars) c.loop-x.x c.loop-x.done _ c.in_ok-lacks.field-0 _ (subst (λ z. c.loop-x.x < z) c.len-x-end.ensures.value c.loop-x-test.true) c.in_ok-push.ensures.ok
-    (c.in_ok-lacks.ensures ∙ ap (λ z. spec.lacks d (picked d.places.sites z)) c.group.ensures) c.loop-x.invariant
+    (c.in_ok-lacks.ensures ∙ ap (λ z. spec.lacks d (picked d.places.sites z)) c.group.ensures.value) c.loop-x.invariant

@@ -9,4 +9,4 @@ pub returns : goal.returns
 returns c =
     let sites = c.self.inside.def.places.sites in
     subst (λ (z : Definition). groups.picked z.places.sites c.group.result.now ≡ spec.sites_of c.args.x z.places.sites) c.self.view_is
-    (ap (groups.picked sites) (c.group.ensures ∙ c.self.invariant.numbers_are.sites c.args.x) ∙ sites_picked c.args.x sites)
+    (ap (groups.picked sites) (c.group.ensures.value ∙ c.self.invariant.numbers_are.sites c.args.x) ∙ sites_picked c.args.x sites)

@@ -12,4 +12,4 @@ returns c =
     let starts = c.self.inside.def.places.starts in
     subst (λ (z : Definition). option_copied c.start_among.result ≡ spec.start_of w z.places.starts) c.self.view_is
     (c.start_among.ensures ∙ ap (λ z. spec.start_of w (groups.picked z c.group.result.now)) c.as_slice.ensures.value
-    ∙ ap (λ z. spec.start_of w (groups.picked starts z)) (c.group.ensures ∙ c.self.invariant.numbers_are.starts w.name) ∙ starts_picked w starts)
+    ∙ ap (λ z. spec.start_of w (groups.picked starts z)) (c.group.ensures.value ∙ c.self.invariant.numbers_are.starts w.name) ∙ starts_picked w starts)

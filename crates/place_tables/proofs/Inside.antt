@@ -1,5 +1,5 @@
 -- Arms, one by one, by the numbers of the equations in them.
-use Rattle.std.specs.Prelude.{◌≡◌, ◌≢◌, refl, ℕ, zero, suc, ◌+◌, ◌-◌, ◌<◌, ◌≤◌, ◌==◌, ◌||◌, ◌&&◌, Bool, true, false, List, [], ◌∷◌, ◌++◌, length, map, drop, Option, Some, None, nat_lt, if◌then◌else◌}
+use Rattle.std.specs.Prelude.{◌≡◌, ◌≢◌, refl, ℕ, zero, suc, ◌+◌, ◌-◌, ◌<◌, ◌==◌, ◌||◌, ◌&&◌, Bool, true, false, List, [], ◌∷◌, ◌++◌, length, map, drop, Option, Some, None, nat_lt, if◌then◌else◌}
 use Rattle.std.proofs.Common.{ap, sym, subst, ◌∙◌, arith, append_assoc}
 use Rattle.std.proofs.lemmas.List.{length-append}
 use Rattle.ls_places.specs.Clocks.{any, or_else}
@@ -9,8 +9,8 @@ use Rattle.ls_places.specs.Search.{count_up, is_empty, lacks, lacks_within, nth,
 use Rattle.ls_places.specs.declared.definition.Definition.{Definition}
 use Rattle.ls_places.specs.declared.places.Site.{Site}
 use Rattle.place_tables.specs.Groups.{picked}
-use Rattle.place_tables.specs.Lacks.{all_lengths, any_arm_lacks, any_ends, arm_at, block_of, count_arms, ends, first_block, if_inside, inner_length, inside, next_arm, path, paths, site_ends, site_length, stands_in}
-use Rattle.place_tables.proofs.Lists.{counted, joined_append}
+use Rattle.place_tables.specs.Lacks.{all_lengths, any_arm_lacks, any_ends, arm_at, block_of, count_arms, ends, first_block, if_inside, inside, next_arm, path, paths, site_ends, site_length, stands_in}
+use Rattle.place_tables.proofs.Lists.{counted}
 
 -- ---- one path
 
@@ -32,11 +32,20 @@ ended (suc k) (x ∷ xs) e = ended k xs e
 
 -- ---- no arm is left
 
+none_less : (k : ℕ) → nat_lt 0 (suc k) ≡ true
+none_less k = grind arith
+
+not_less : (n : ℕ) → nat_lt (suc n) 1 ≡ false
+not_less n = grind arith
+
+less_suc : (a b : ℕ) → nat_lt (suc a) (suc b) ≡ nat_lt a b
+less_suc a b = grind arith
+
 empty_is : {A : Type 0} (skip : ℕ) (all : List A) → nat_lt (length all) (suc skip) ≡ is_empty (drop skip all)
-empty_is zero [] = refl
-empty_is zero (x ∷ xs) = refl
-empty_is (suc k) [] = refl
-empty_is (suc k) (x ∷ xs) = empty_is k xs
+empty_is zero [] = none_less 0
+empty_is zero (x ∷ xs) = not_less (length xs)
+empty_is (suc k) [] = none_less (suc k)
+empty_is (suc k) (x ∷ xs) = less_suc (length xs) (suc k) ∙ empty_is k xs
 
 any_empty_step : (sites : List Site) (skip : ℕ) (ks : List ℕ) (o : Option Site) → any_ends sites skip ks ≡ any (map is_empty (paths sites skip ks))
     → (site_ends skip o || any_ends sites skip ks) ≡ any (map is_empty (map (path skip) (option_list o ++ picked sites ks)))
@@ -155,6 +164,15 @@ next_lacks d depth m skip numbers inner count j b whole below is none e so_far =
     let all = paths d.places.sites skip numbers in
     let rest = any_arm_lacks d depth m all (count_up (count - (j + 1)) (j + 1)) in
     ap (λ z. z || rest) (sym none ∙ here d depth m skip numbers inner j b is e) ∙ sym (ap (any_arm_lacks d depth m all) (counted count j below)) ∙ so_far
+
+-- an arm that lacks an equation
+pub found_lacking : (d : Definition) (depth m skip : ℕ) (numbers inner : List ℕ) (count j : ℕ) (b whole : Bool) → j < count
+    → b ≡ lacks_within d depth (paths d.places.sites (skip + 1) inner) → b ≡ true → inner ≡ inside d.places.sites m skip j numbers
+    → any_arm_lacks d depth m (paths d.places.sites skip numbers) (count_up (count - j) j) ≡ whole → true ≡ whole
+found_lacking d depth m skip numbers inner count j b whole below is some e so_far =
+    let all = paths d.places.sites skip numbers in
+    let rest = any_arm_lacks d depth m all (count_up (count - (j + 1)) (j + 1)) in
+    ap (λ z. z || rest) (sym some ∙ here d depth m skip numbers inner j b is e) ∙ sym (ap (any_arm_lacks d depth m all) (counted count j below)) ∙ so_far
 
 lacks_some : (d : Definition) (depth m : ℕ) (paths : List (List InnerArm)) → any (map is_empty paths) ≡ false → (is_empty paths ≡ false) × (m ≡ outer_block paths)
     → any_arm_lacks d depth m paths (count_up (count_arms d m) 0) ≡ lacks_within d (suc depth) paths
