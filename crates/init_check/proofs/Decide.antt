@@ -1,6 +1,6 @@
 -- The searches in the graph of a body, and what they tell.
 use Rattle.std.specs.Prelude.{◌≡◌, refl, ℕ, suc, ◌+◌, ◌-◌, ◌<◌, ◌≤◌, Bool, true, false, List, [], ◌∷◌, ◌++◌, map, length, Some, None, nat_lt, if◌then◌else◌}
-use Rattle.std.proofs.Common.{ap, sym, subst, ◌∙◌, arith, append_assoc}
+use Rattle.std.proofs.Common.{ap, sym, subst, ◌∙◌, arith, append_assoc, get_or}
 use Rattle.digraph.specs.Graph.{Reached, Same, reads}
 use Rattle.digraph.specs.Marks.{marked}
 use Rattle.ls_places.specs.Search.{count_up}
@@ -46,6 +46,13 @@ pub whole_is_node : (d : Definition) (k x : ℕ) → x ≡ whole_node (counts d)
 whole_is_node d k x e =
     let n = counts d in
     subst (λ z. z < total n) (sym e) (by_bound k n.exprs (3 + n.params + n.vars + n.vars + k) (total n) (nat_lt k n.exprs) refl (λ l. omega (arith, l)) (omega arith))
+
+pub within : (d : Definition) (m : ℕ) (row slice : List ℕ) → m ≡ total (counts d) → slice ≡ row → AllBelow (total (counts d)) row → AllBelow m slice
+within d m row slice e is all = subst (AllBelow m) (sym is) (below (total (counts d)) m row e all)
+
+pub one_below : (v m : ℕ) → v < m → (k d : ℕ) → k < 1 → get_or (v ∷ []) k d < m
+one_below v m l zero d k = l
+one_below v m l (suc i) d k = absurd (omega (arith, k))
 
 -- ---- the answers
 

@@ -1,16 +1,22 @@
 -- The items of a file, one after the other.
-use Rattle.std.specs.Prelude.{◌≡◌, refl, ℕ, ◌+◌, ◌<◌, List, [], ◌∷◌, ◌++◌, length, Option, Some, None}
+use Rattle.std.specs.Prelude.{◌≡◌, refl, ℕ, ◌+◌, ◌<◌, Bool, List, [], ◌∷◌, ◌++◌, length, Option, Some, None}
 use Rattle.std.proofs.Common.{ap, sym, subst, ◌∙◌, arith, append_assoc, drop, take, get_or}
 use Rattle.std.proofs.lemmas.Grind.{common_steps}
+use Rattle.ls_ast.specs.declared.tree.BodyOf.{BodyOf}
 use Rattle.ls_ast.specs.declared.tree.DefOf.{DefOf}
 use Rattle.ls_ast.specs.declared.tree.DefOf.TheVariants as item
+use Rattle.ls_ast.specs.declared.tree.Mark.{Mark}
+use Rattle.ls_ast.specs.declared.tree.Pat.{Pat}
 use Rattle.ls_base.specs.declared.Line.{Line}
+use Rattle.ls_base.specs.declared.Name.{Name}
 use Rattle.ls_places.specs.Definitions.{definition_of}
+use Rattle.ls_places.specs.Places.{option_list}
 use Rattle.ls_sig.specs.declared.binder.Note.{Note}
 use Rattle.ls_sig.specs.declared.sigs.InitSig.{InitSig}
 use Rattle.init_rules.specs.Files.{Judged, Let, Uninitialised, data_marks}
+use Rattle.init_rules.specs.Init.{Initialised}
 use Rattle.init_rules.proofs.Files.{judged_with_more}
-use Rattle.init_check.specs.Judged.{ItemFails, ItemJudged, lets, no_cases}
+use Rattle.init_check.specs.Judged.{Decided, ItemFails, ItemJudged, lets, no_cases}
 use Rattle.init_check.proofs.Pushed.{nothing_after}
 
 lets_append : (xs ys : List (DefOf Note)) → lets (xs ++ ys) ≡ lets xs ++ lets ys
@@ -38,7 +44,7 @@ some_judged : (sigs : List InitSig) (ss : List InitSig) (ds : List Let) (x : Def
     → Judged sigs (ds ++ lets (x ∷ [])) (ss ++ s ∷ [])
 some_judged sigs ss ds (item.Cases line name all) s j so_far = absurd (no_some s (sym j))
 some_judged sigs ss ds (item.Let line node name params marks notes body) s (t, e, i, is) so_far =
-    let d = record { line = line; are_data = data_marks params marks; body = definition_of no_cases params notes body } in
+    let d : Let = record { line = line; are_data = data_marks params marks; body = definition_of no_cases params notes body } in
     subst (λ z. Judged sigs (ds ++ d ∷ []) (ss ++ z ∷ [])) (sym (the_some s t e)) (judged_with_more sigs ds ss d t so_far i is)
 
 none_judged : (sigs : List InitSig) (ss : List InitSig) (ds : List Let) (x : DefOf Note) → ItemJudged (sigs ++ ss) x None → Judged sigs ds ss → Judged sigs (ds ++ lets (x ∷ [])) ss
@@ -57,6 +63,11 @@ pub next_none : (sigs : List InitSig) (all : List (DefOf Note)) (i : ℕ) (x : D
 next_none sigs all i x before ss below is e j so_far =
     subst (λ z. Judged sigs z ss) (sym (lets_taken all i x below is)) (none_judged sigs ss (lets (take i all)) x (subst (λ z. ItemJudged z x None) e j) so_far)
 
+pub next_item : (sigs : List InitSig) (all : List (DefOf Note)) (i : ℕ) (x : DefOf Note) (before ss : List InitSig) (o : Option InitSig) → i < length all → get_or all i x ≡ x → before ≡ sigs ++ ss
+    → ItemJudged before x o → Judged sigs (lets (take i all)) ss → Judged sigs (lets (take (i + 1) all)) (ss ++ option_list o)
+next_item sigs all i x before ss None below is e j so_far = subst (Judged sigs (lets (take (i + 1) all))) (nothing_after ss) (next_none sigs all i x before ss below is e j so_far)
+next_item sigs all i x before ss (Some s) below is e j so_far = next_some sigs all i x before ss s below is e j so_far
+
 lets_parted : (all : List (DefOf Note)) (i : ℕ) (x : DefOf Note) → i < length all → get_or all i x ≡ x → lets all ≡ lets (take i all) ++ (lets (x ∷ []) ++ lets (drop (i + 1) all))
 lets_parted all i x below is =
     ap lets (parted all i x below is) ∙ lets_append (take i all) (x ∷ drop (i + 1) all) ∙ ap (λ z. lets (take i all) ++ z) (lets_append (x ∷ []) (drop (i + 1) all))
@@ -72,3 +83,21 @@ pub fails : (sigs : List InitSig) (all : List (DefOf Note)) (i : ℕ) (x : DefOf
     → ItemFails before x at → Judged sigs (lets (take i all)) ss → Uninitialised sigs (lets all) at
 fails sigs all i x before ss at below is e f so_far =
     fails_in sigs ss (lets (take i all)) (drop (i + 1) all) x at (lets all) (lets_parted all i x below is) (subst (λ z. ItemFails z x at) e f) so_far
+
+-- ---- one item
+
+pub item_fails : (sigs : List InitSig) (it : DefOf Note) (line : Line) (node : Bool) (name : Name) (params : List Pat) (marks ms : List Mark) (notes ns : List Note) (body : BodyOf Note)
+    (o : Option InitSig) → it ≡ item.Let line node name params marks notes body → ms ≡ marks → ns ≡ notes
+    → Decided (definition_of no_cases params ns body) sigs (data_marks params ms) o → o ≡ None → ItemFails sigs it line
+item_fails sigs it line node name params marks ms notes ns body o is m n decided none =
+    subst (λ z. ItemFails sigs z line) (sym is)
+    (refl, subst (λ z. Initialised (definition_of no_cases params z body) sigs → ⊥) n (subst (Decided (definition_of no_cases params ns body) sigs (data_marks params ms)) none decided))
+
+pub item_judged : (sigs : List InitSig) (it : DefOf Note) (line : Line) (node : Bool) (name : Name) (params : List Pat) (marks ms : List Mark) (notes ns : List Note) (body : BodyOf Note)
+    (o : Option InitSig) (s : InitSig) → it ≡ item.Let line node name params marks notes body → ms ≡ marks → ns ≡ notes
+    → Decided (definition_of no_cases params ns body) sigs (data_marks params ms) o → o ≡ Some s → ItemJudged sigs it (Some s)
+item_judged sigs it line node name params marks ms notes ns body o s is m n decided some =
+    let both : Decided (definition_of no_cases params notes body) sigs (data_marks params marks) (Some s) =
+    subst (λ z. Decided (definition_of no_cases params z body) sigs (data_marks params marks) (Some s)) n
+    (subst (λ z. Decided (definition_of no_cases params ns body) sigs (data_marks params z) (Some s)) m (subst (Decided (definition_of no_cases params ns body) sigs (data_marks params ms)) some decided)) in
+    subst (λ z. ItemJudged sigs z (Some s)) (sym is) (s, refl, both.0, both.1)

@@ -1,5 +1,5 @@
 -- What the walks through a body push: nodes of its graph.
-use Rattle.std.specs.Prelude.{◌≡◌, ℕ, suc, ◌<◌, ◌^◌, not, Bool, true, false, List, [], ◌∷◌, ◌++◌, map, length, Option, Some, None, if◌then◌else◌}
+use Rattle.std.specs.Prelude.{◌≡◌, ℕ, suc, ◌==◌, ◌<◌, ◌^◌, not, Bool, true, false, List, [], ◌∷◌, ◌++◌, map, length, Option, Some, None, if◌then◌else◌}
 use Rattle.ls_ast.specs.declared.tree.Case.{Case}
 use Rattle.ls_ast.specs.declared.tree.Form.{Form, fold-Form}
 use Rattle.ls_places.specs.Clocks.{is_function}
@@ -7,6 +7,8 @@ use Rattle.ls_places.specs.Patterns.{joined}
 use Rattle.ls_places.specs.Places.{Place}
 use Rattle.ls_places.specs.Search.{E, nth, start_of}
 use Rattle.ls_places.specs.declared.definition.Definition.{Definition}
+use Rattle.ls_places.specs.declared.places.Frame.{Frame}
+use Rattle.ls_places.specs.declared.places.Frame.TheVariants as frame
 use Rattle.ls_places.specs.declared.places.Start.{Start}
 use Rattle.ls_places.specs.declared.places.Variable.{Variable}
 use Rattle.ls_sig.specs.declared.binder.Binder.{Binder}
@@ -61,6 +63,10 @@ last_zeros d p _ = []
 
 abbrev pub if_one : Bool → List ℕ
 if_one c = if_nodes c (0 ∷ [])
+
+abbrev pub is_reset : ℕ → Frame → Bool
+is_reset r (frame.Reset q) = r == q
+is_reset r (frame.Arm m j) = false
 
 -- an answer that is only yes where a `reset` is there
 abbrev pub IsHeld : Bool → ℕ → Place → Type 0

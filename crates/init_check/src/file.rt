@@ -1,10 +1,11 @@
 //! The definitions of a file, one after the other.
 
-ghost use Rattle.std.specs.Prelude.{◌≡◌, [], IfOk, IfErr};
+ghost use Rattle.std.specs.Prelude.{◌≡◌, ◌++◌, [], OnOk, IfOk, IfErr};
 ghost use Rattle.std.specs.Option.{option_copied};
 ghost use Rattle.init_check.specs.Judged as own;
 ghost use Rattle.init_rules.specs.Files as spec;
 ghost use Rattle.ls_places.specs.Definitions as definitions;
+ghost use Rattle.ls_places.specs.Places.{option_list};
 
 use crate::judge::decide;
 use crate::nodes::total_nodes;
@@ -13,7 +14,7 @@ use ls_base::{Line, List, NoMemory, NoteCopy};
 use ls_places::{CasePlaces, Definition, NoteSignals, find};
 use ls_sig::{Ann, Env, InitSig, InitSigs, Note};
 use ls_terms::ClockTerm;
-use place_tables::Tables;
+use place_tables::{Tables, nth};
 use std::alloc::Global;
 use thiserror::Error;
 
@@ -98,7 +99,7 @@ fn data_marks(alloc: Global, params: &[Pat], marks: &[Mark]) -> Result<List<bool
 {
     let mut done = List::new(alloc);
     for i in 0..params.len() {
-        done.push(is_data(marks.get(i)))?;
+        done.push(is_data(nth(marks, i)))?;
     }
     Ok(done)
 }
@@ -139,10 +140,36 @@ fn judge_item(
             notes,
             body,
             ..
-        } => match judge_let(alloc, sigs, params, marks.as_slice(), notes.as_slice(), body)? {
+        } => match judge_let(
+            alloc,
+            sigs,
+            params,
+            marks.as_slice(),
+            notes.as_slice(),
+            body,
+        )? {
             None => Err(InitFault::Uninitialised(*line)),
             Some(sig) => Ok(Some(sig)),
         },
+    }
+}
+
+// One more signature, where there is one.
+fn add_signature(
+    alloc: Global,
+    sig: Option<InitSig>,
+    done: &mut List<InitSig>,
+    sigs: &mut List<InitSig>,
+) -> Result<(), NoMemory>
+    ensures done { OnOk result (done.new ≡ done.old ++ option_list sig) }
+    ensures sigs { OnOk result (sigs.new ≡ sigs.old ++ option_list sig) }
+{
+    match sig {
+        None => Ok(()),
+        Some(sig) => {
+            done.push(sig.copy(alloc)?)?;
+            sigs.push(sig)
+        }
     }
 }
 
@@ -157,9 +184,9 @@ fn judge_all(
     let mut sigs = before.copy(alloc)?;
     let mut done = List::new(alloc);
     for item in items {
-        if let Some(sig) = judge_item(alloc, sigs.as_slice(), item)? {
-            done.push(sig.copy(alloc)?)?;
-            sigs.push(sig)?;
+        match judge_item(alloc, sigs.as_slice(), item) {
+            Err(fault) => return Err(fault),
+            Ok(sig) => add_signature(alloc, sig, &mut done, &mut sigs)?,
         }
     }
     Ok(done)

@@ -153,12 +153,7 @@ fn add_site_zeros(d: &Definition, out: &mut List<u32>) -> Result<(), NoMemory>
 }
 
 // An arm without an equation for a variable is `last` of it.
-fn add_variable_zero(
-    d: &Tables,
-    k: u32,
-    w: &Variable,
-    out: &mut List<u32>,
-) -> Result<(), NoMemory>
+fn add_variable_zero(d: &Tables, k: u32, w: &Variable, out: &mut List<u32>) -> Result<(), NoMemory>
     requires here { k < length d.now.places.vars }
     requires fits { fits d.now }
     ensures { OnOk result (out.new ≡ out.old ++ own.missing_nodes d.now k w.now) }
@@ -304,12 +299,7 @@ fn add_variable_rows(alloc: Global, d: &Tables, rows: &mut Rows) -> Result<(), N
     Ok(())
 }
 
-fn add_initial_row(
-    alloc: Global,
-    d: &Tables,
-    w: &Variable,
-    rows: &mut Rows,
-) -> Result<(), NoMemory>
+fn add_initial_row(alloc: Global, d: &Tables, w: &Variable, rows: &mut Rows) -> Result<(), NoMemory>
     requires fits { fits d.now }
     requires nodes { own.AreNodes rows.old d.now }
     ensures nodes { OnOk result (own.AreNodes rows.new d.now) }

@@ -9,4 +9,3 @@ mod sources;
 mod zeros;
 
 pub use file::{InitFault, check_init, check_init_after};
-

@@ -196,14 +196,22 @@ fn holds_reset(r: u32, place: &[Frame]) -> bool
     false
 }
 
+fn is_reset(r: u32, frame: &Frame) -> bool
+    ensures { result ≡ own.is_reset r frame.now }
+{
+    match frame {
+        Frame::Reset(q) => r == *q,
+        Frame::Arm(_, _) => false,
+    }
+}
+
 // Whether this `reset` stands at a place among what is around. It mostly does where it is asked.
 fn is_reset_at(r: u32, place: &[Frame], at: usize) -> bool
     ensures { own.IsHeld result r place.now }
 {
-    match place.get(at) {
-        Some(Frame::Reset(q)) => r == *q,
-        Some(Frame::Arm(_, _)) => false,
+    match nth(place, at) {
         None => false,
+        Some(frame) => is_reset(r, frame),
     }
 }
 

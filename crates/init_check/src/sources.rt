@@ -18,13 +18,7 @@ fn is_chosen(bits: &[bool], want: bool, i: usize) -> bool
 {
     match nth(bits, i) {
         None => !want,
-        Some(bit) => {
-            if want {
-                *bit
-            } else {
-                !*bit
-            }
-        }
+        Some(bit) => { if want { *bit } else { !*bit } }
     }
 }
 
@@ -82,7 +76,6 @@ pub fn add_all_sources(
 }
 
 /// What feeds the branches of a `merge`.
-#[cycle(sources)]
 pub fn add_choice_sources(
     d: &Tables,
     sigs: &[InitSig],

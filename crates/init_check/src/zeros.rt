@@ -9,8 +9,7 @@ ghost use Rattle.ls_places.specs.Search.{nth as sig_at};
 
 use crate::nodes::{add_last_zeros, add_name, is_function};
 use crate::sources::{
-    add_all_sources, add_call_sources, add_choice_sources, add_chosen_sources, add_own,
-    add_sources,
+    add_all_sources, add_call_sources, add_choice_sources, add_chosen_sources, add_own, add_sources,
 };
 use ls_ast::{Case, Expr, Form};
 use ls_base::{List, NoMemory};
@@ -28,7 +27,12 @@ fn add_own_of(sigs: &[InitSig], k: u32, out: &mut List<u32>) -> Result<(), NoMem
 }
 
 // 1, where a function has the result 1 by itself.
-fn add_owns(d: &Tables, sigs: &[InitSig], bound: Binder, out: &mut List<u32>) -> Result<(), NoMemory>
+fn add_owns(
+    d: &Tables,
+    sigs: &[InitSig],
+    bound: Binder,
+    out: &mut List<u32>,
+) -> Result<(), NoMemory>
     ensures { OnOk result (out.new ≡ out.old ++ own.if_one (flow.owns d.now sigs.now bound)) }
 {
     match bound {
@@ -221,7 +225,10 @@ fn add_form(
             add_choice_zeros(d, sigs, place, choices.as_slice(), out)
         }
         Form::Call {
-            run, args, every, ..
+            run,
+            args,
+            every,
+            ..
         } => {
             add_call_asked(d, sigs, place, *run, note, args.as_slice(), out)?;
             add_all_zeros(d, sigs, place, args.as_slice(), out)?;
