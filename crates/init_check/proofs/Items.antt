@@ -16,7 +16,9 @@ use Rattle.ls_sig.specs.declared.sigs.InitSig.{InitSig}
 use Rattle.init_rules.specs.Files.{Judged, Let, Uninitialised, data_marks}
 use Rattle.init_rules.specs.Init.{Initialised}
 use Rattle.init_rules.proofs.Files.{judged_with_more}
-use Rattle.init_check.specs.Judged.{Decided, ItemFails, ItemJudged, lets, no_cases}
+use Rattle.init_check.specs.declared.file.InitFault.{InitFault}
+use Rattle.init_check.specs.declared.file.InitFault.TheVariants as fault
+use Rattle.init_check.specs.Judged.{AtLine, Decided, ItemFails, ItemJudged, lets, no_cases}
 use Rattle.init_check.proofs.Pushed.{nothing_after}
 
 lets_append : (xs ys : List (DefOf Note)) → lets (xs ++ ys) ≡ lets xs ++ lets ys
@@ -83,6 +85,11 @@ pub fails : (sigs : List InitSig) (all : List (DefOf Note)) (i : ℕ) (x : DefOf
     → ItemFails before x at → Judged sigs (lets (take i all)) ss → Uninitialised sigs (lets all) at
 fails sigs all i x before ss at below is e f so_far =
     fails_in sigs ss (lets (take i all)) (drop (i + 1) all) x at (lets all) (lets_parted all i x below is) (subst (λ z. ItemFails z x at) e f) so_far
+
+pub fault_at : (f : InitFault) (sigs : List InitSig) (all : List (DefOf Note)) (i : ℕ) (x : DefOf Note) (before ss : List InitSig) → i < length all → get_or all i x ≡ x → before ≡ sigs ++ ss
+    → AtLine f (ItemFails before x) → Judged sigs (lets (take i all)) ss → AtLine f (Uninitialised sigs (lets all))
+fault_at (fault.Uninitialised line) sigs all i x before ss below is e g so_far = fails sigs all i x before ss line below is e g so_far
+fault_at fault.NoMemory sigs all i x before ss below is e g so_far = tt
 
 -- ---- one item
 

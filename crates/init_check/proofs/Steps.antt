@@ -10,6 +10,7 @@ use Rattle.ls_places.specs.declared.places.Frame.TheVariants as frame
 use Rattle.ls_places.specs.declared.places.Variable.{Variable}
 use Rattle.place_tables.proofs.Lists.{counted, one_on}
 use Rattle.init_rules.specs.Bits.{holds_reset, leaves_reset, reset_within}
+use Rattle.init_rules.specs.Nodes.{empty_rows}
 use Rattle.init_check.specs.Rows as own
 use Rattle.init_check.specs.Walks.{is_reset}
 
@@ -90,3 +91,10 @@ pub mapped_next : {A : Type 0} (f : A → List ℕ) (all : List A) (i : ℕ) (x 
 mapped_next f all i x old new whole l at e so_far =
     let rest = map f (drop (i + 1) all) in
     ap (λ z. z ++ rest) e ∙ append_assoc old (f x ∷ []) rest ∙ sym (ap (λ z. old ++ map f z) (one_on all i x l at)) ∙ so_far
+
+one_less : (n k : ℕ) → k < n → n - k ≡ suc (n - (k + 1))
+one_less n k l = omega (arith, l)
+
+pub empty_next : (n k : ℕ) (old new whole : List (List ℕ)) → k < n → new ≡ old ++ [] ∷ [] → old ++ empty_rows (n - k) ≡ whole → new ++ empty_rows (n - (k + 1)) ≡ whole
+empty_next n k old new whole l e so_far =
+    ap (λ z. z ++ empty_rows (n - (k + 1))) e ∙ append_assoc old ([] ∷ []) (empty_rows (n - (k + 1))) ∙ sym (ap (λ z. old ++ empty_rows z) (one_less n k l)) ∙ so_far

@@ -57,7 +57,7 @@ add_form-returns-in-None t c =
 pub add_form-returns-in_ok-add_sources-in-Some : goal.add_form-returns-in_ok-add_sources-in-Some
 add_form-returns-in_ok-add_sources-in-Some t c =
     subst (λ z. OnOk c.add_call_sources.result (c.add_call_sources.new.out ≡ z))
-    (ap (λ z. z ++ own.call_sources c.args.d.now c.args.sigs.now c.args.place.now _ c.args.note.now c.as_slice-in-Some.result.now)
+    (ap (λ z. z ++ own.call_sources c.args.d.now c.args.sigs.now c.args.place.now c.in-Call.run' c.args.note.now c.as_slice-in-Some.result.now)
     (c.in_ok-add_sources-in-Some.ensures ∙ ap (λ z. z ++ own.sources c.args.d.now c.args.sigs.now c.args.place.now c.in-Some.e)
     (c.in_ok-add_zeros-in-Some.ensures ∙ ap (λ z. z ++ own.zeros c.args.d.now c.args.sigs.now c.args.place.now c.in-Some.e)
     (c.in_ok-add_all_zeros-in-Call.ensures ∙ ap (λ z. z ++ own.all_zeros c.args.d.now c.args.sigs.now c.args.place.now c.as_slice-in-Call-2.result.now) c.in_ok-add_call_asked-in-Call.ensures)))
