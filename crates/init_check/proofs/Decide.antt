@@ -1,13 +1,12 @@
 -- The searches in the graph of a body, and what they tell.
-use Rattle.std.specs.Prelude.{◌≡◌, refl, ℕ, zero, suc, ◌+◌, ◌-◌, ◌<◌, ◌≤◌, Bool, true, false, List, [], ◌∷◌, ◌++◌, map, length, Some, None, nat_lt, if◌then◌else◌}
+use Rattle.std.specs.Prelude.{◌≡◌, refl, ℕ, zero, suc, ◌+◌, ◌-◌, ◌<◌, Bool, true, false, List, [], ◌∷◌, ◌++◌, map, length, Some, None, nat_lt, if◌then◌else◌}
 use Rattle.std.proofs.Common.{ap, sym, subst, ◌∙◌, arith, append_assoc, get_or}
-use Rattle.digraph.specs.Graph.{Reached, Same, reads}
 use Rattle.digraph.specs.Marks.{marked}
 use Rattle.ls_places.specs.Search.{count_up}
 use Rattle.ls_places.specs.declared.definition.Definition.{Definition}
 use Rattle.ls_sig.specs.declared.sigs.InitSig.{InitSig}
 use Rattle.init_rules.specs.Nodes.{Standing, counts, empty_rows, rows, total, whole_node, whole_row, zero_row}
-use Rattle.init_rules.specs.Searches.{AllBelow, Marks, RowsBelow, signature}
+use Rattle.init_rules.specs.Searches.{AllBelow, Marks, signature}
 use Rattle.init_rules.proofs.Below.{graph_is_there}
 use Rattle.init_rules.proofs.Signed.{searches_decide}
 use Rattle.init_check.specs.Judged.{Decided}

@@ -1,8 +1,7 @@
 -- Forms, by what they are.
-use Rattle.std.specs.Prelude.{◌≡◌, refl, ℕ, Bool, List, [], ◌∷◌, ◌++◌, map, Option, Some, None}
+use Rattle.std.specs.Prelude.{◌≡◌, refl, ℕ, Bool, List, ◌++◌, map, Option, Some, None}
 use Rattle.std.proofs.Common.{ap, sym, ◌∙◌, append_assoc}
 use Rattle.ls_ast.specs.declared.tree.Case.{Case}
-use Rattle.ls_ast.specs.declared.tree.Expr.{Expr}
 use Rattle.ls_ast.specs.declared.tree.Form.{Form, fold-roll-Form}
 use Rattle.ls_ast.specs.declared.tree.Form.TheOpen.{Form-F}
 use Rattle.ls_ast.specs.declared.tree.Form.TheVariants as form

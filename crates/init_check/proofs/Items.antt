@@ -1,6 +1,6 @@
 -- The items of a file, one after the other.
 use Rattle.std.specs.Prelude.{◌≡◌, refl, ℕ, ◌+◌, ◌<◌, Bool, List, [], ◌∷◌, ◌++◌, length, Option, Some, None}
-use Rattle.std.proofs.Common.{ap, sym, subst, ◌∙◌, arith, append_assoc, drop, take, get_or}
+use Rattle.std.proofs.Common.{ap, sym, subst, ◌∙◌, arith, drop, take, get_or}
 use Rattle.std.proofs.lemmas.Grind.{common_steps}
 use Rattle.ls_ast.specs.declared.tree.BodyOf.{BodyOf}
 use Rattle.ls_ast.specs.declared.tree.DefOf.{DefOf}

@@ -1,10 +1,10 @@
 -- Nodes of lists of sources.
-use Rattle.std.specs.Prelude.{◌≡◌, refl, ℕ, zero, suc, ◌+◌, not, Bool, true, false, List, [], ◌∷◌, ◌++◌, map, length, Option, Some, None, if◌then◌else◌}
-use Rattle.std.proofs.Common.{ap, sym, ◌∙◌, arith, append_assoc}
+use Rattle.std.specs.Prelude.{◌≡◌, refl, ℕ, suc, ◌+◌, not, Bool, true, false, List, [], ◌∷◌, ◌++◌, map, Option, Some, None, if◌then◌else◌}
+use Rattle.std.proofs.Common.{ap, sym, ◌∙◌, arith}
 use Rattle.ls_ast.specs.declared.tree.Case.{Case}
 use Rattle.ls_ast.specs.declared.tree.Pat.{Pat}
 use Rattle.ls_places.specs.Clocks.{choice_parts}
-use Rattle.ls_places.specs.Patterns.{has_name, joined, names_of}
+use Rattle.ls_places.specs.Patterns.{has_name, names_of}
 use Rattle.ls_places.specs.Places.{Place}
 use Rattle.ls_places.specs.Search.{E, nth, start_of}
 use Rattle.ls_places.specs.declared.definition.Definition.{Definition}
@@ -12,10 +12,9 @@ use Rattle.ls_places.specs.declared.places.Start.{Start}
 use Rattle.ls_places.specs.declared.places.Variable.{Variable}
 use Rattle.ls_sig.specs.declared.binder.Binder.{Binder}
 use Rattle.ls_sig.specs.declared.binder.Binder.TheVariants as b
-use Rattle.ls_sig.specs.declared.binder.Note.{Note}
 use Rattle.ls_sig.specs.declared.sigs.InitSig.{InitSig}
 use Rattle.place_tables.specs.Tables.{param_in}
-use Rattle.init_rules.specs.Bits.{leaves_reset, own_of, param_of}
+use Rattle.init_rules.specs.Bits.{leaves_reset, param_of}
 use Rattle.init_rules.specs.Flow.{Sourced, barred_of, if_always, if_list, reached_of, sourced, sources_of, zeros_of}
 use Rattle.init_rules.specs.Flow as flow
 use Rattle.init_rules.specs.Nodes.{Counts, counts, node, nodes, var_node}

@@ -1,5 +1,5 @@
 -- One step of what is pushed in a loop.
-use Rattle.std.specs.Prelude.{◌≡◌, ◌≢◌, refl, ℕ, zero, suc, ◌+◌, ◌-◌, ◌<◌, ◌||◌, ◌==◌, not, Bool, true, false, List, [], ◌∷◌, ◌++◌, map, length, drop, slice_get, Option, Some, None}
+use Rattle.std.specs.Prelude.{◌≡◌, ◌≢◌, refl, ℕ, zero, suc, ◌+◌, ◌-◌, ◌<◌, ◌||◌, ◌==◌, Bool, true, false, List, [], ◌∷◌, ◌++◌, map, length, drop, Some}
 use Rattle.std.proofs.Common.{ap, sym, ◌∙◌, arith, append_assoc, get_or}
 use Rattle.ls_places.specs.Patterns.{joined}
 use Rattle.ls_places.specs.Places.{Place}
@@ -9,7 +9,7 @@ use Rattle.ls_places.specs.declared.places.Frame.{Frame}
 use Rattle.ls_places.specs.declared.places.Frame.TheVariants as frame
 use Rattle.ls_places.specs.declared.places.Variable.{Variable}
 use Rattle.place_tables.proofs.Lists.{counted, one_on}
-use Rattle.init_rules.specs.Bits.{holds_reset, leaves_reset, reset_within}
+use Rattle.init_rules.specs.Bits.{holds_reset, reset_within}
 use Rattle.init_rules.specs.Nodes.{empty_rows}
 use Rattle.init_check.specs.Rows as own
 use Rattle.init_check.specs.Walks.{is_reset}

@@ -1,6 +1,6 @@
 -- The row of what has to be 0, part by part.
 use Rattle.std.specs.Prelude.{◌≡◌, refl, ℕ, not, List, [], ◌∷◌, ◌++◌, map, length, Option, Some, None}
-use Rattle.std.proofs.Common.{ap, ap₂, sym, ◌∙◌, append_assoc}
+use Rattle.std.proofs.Common.{ap, sym, ◌∙◌, append_assoc}
 use Rattle.ls_places.specs.Patterns.{joined}
 use Rattle.ls_places.specs.Search.{count_up, lacks, nth, sites_of}
 use Rattle.ls_places.specs.declared.definition.Definition.{Definition}

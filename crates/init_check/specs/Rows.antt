@@ -1,5 +1,5 @@
 -- The rows of a body's graph, as they are pushed.
-use Rattle.std.specs.Prelude.{◌≡◌, ℕ, suc, not, Bool, true, false, List, [], ◌∷◌, ◌++◌, length, Option, Some, None, if◌then◌else◌}
+use Rattle.std.specs.Prelude.{◌≡◌, ℕ, not, List, [], ◌∷◌, ◌++◌, length, Option, Some, None, if◌then◌else◌}
 use Rattle.ls_places.specs.Search.{lacks, nth, sites_of, start_of}
 use Rattle.ls_places.specs.declared.definition.Definition.{Definition}
 use Rattle.ls_places.specs.declared.places.Site.{Site}

@@ -1,7 +1,6 @@
 use Rattle.std.specs.Prelude.{IfOk}
-use Rattle.std.proofs.Common.{◌≡◌, ◌∙◌, ap, length, subst, sym}
+use Rattle.std.proofs.Common.{◌∙◌, ap, length, subst, sym}
 use Rattle.ls_places.specs.declared.definition.Definition.{Definition}
-use Rattle.ls_places.specs.Definitions.{definition_of}
 use Rattle.init_rules.specs.Files.{data_marks}
 use Rattle.init_rules.specs.Nodes.{Standing}
 use Rattle.init_rules.proofs.Below.{definition_stands}

@@ -1,4 +1,4 @@
-use Rattle.std.proofs.Common.{◌≡◌, ◌∙◌, ◌++◌, ℕ, List, ap, length, map}
+use Rattle.std.proofs.Common.{◌∙◌, ◌++◌, ℕ, List, ap, length, map}
 use Rattle.ls_places.specs.declared.definition.Definition.{Definition}
 use Rattle.ls_places.specs.Patterns.{joined}
 use Rattle.ls_places.specs.Search.{count_up}

@@ -1,4 +1,0 @@
-pub mod Maps
-pub mod NotedForms
-pub mod Sampled
-pub mod Seen
