@@ -1,6 +1,7 @@
 -- What the model reads of a body that names what is there is there.
-use Rattle.std.specs.Prelude.{◌≡◌, refl, ℕ, zero, suc, ◌+◌, ◌-◌, ◌==◌, ◌≤◌, Bool, true, false, List, [], ◌∷◌, ◌++◌, map, length, Option, Some, None, if◌then◌else◌, nat_lt}
-use Rattle.std.proofs.Common.{ap, ap₂, sym, ◌∙◌, subst, arith}
+use Rattle.std.specs.Prelude.{◌≡◌, refl, ℕ, zero, suc, ◌+◌, ◌-◌, ◌==◌, ◌≤◌, Bool, true, false, List, [], ◌∷◌, ◌++◌, map, length, Option, Some, None, if◌then◌else◌, nat_lt, ◌&&◌}
+use Rattle.std.proofs.Common.{ap, ap₂, sym, ◌∙◌, subst, inl, inr, arith}
+use Rattle.std.proofs.lemmas.Bool.{cases_lt, eq-eqb, lt-ltb}
 use Rattle.ls_value.specs.declared.leaf.Leaf.TheVariants as leaf
 use Rattle.ls_ast.specs.declared.tree.Case.{Case}
 use Rattle.ls_ast.specs.declared.tree.Expr.{Expr, Expr-F, fold_out-Expr}
@@ -17,7 +18,7 @@ use Rattle.ls_sig.specs.declared.binder.Note.{Note}
 use Rattle.ls_places.specs.Clocks.{bare, bare_step, below, below_open, clock_depth, clocks_in, clocks_form, clocks_expr, noted, or_else, is_function, choice_parts, option_part}
 use Rattle.ls_places.specs.Patterns.{joined, has_name, names_of}
 use Rattle.ls_places.specs.Places.{Place, InnerArm, arms}
-use Rattle.ls_places.specs.Search.{E, nth, all_clocks, arms_within, lacks, list_of, mode_clock, never, param_clock, signal_arms, signal_at, signal_in, signal_list_at, sites_of, start_of, tested_outside, whole_at, whole_of}
+use Rattle.ls_places.specs.Search.{E, nth, all_clocks, arms_within, lacks, list_of, mode_clock, never, param_clock, count_up, signal_arms, signal_at, signal_in, signal_list, sites_of, starts_with, start_of, tested_outside, whole_at, whole_of}
 use Rattle.ls_places.specs.declared.places.Frame.TheVariants as frame
 use Rattle.ls_places.specs.declared.places.Named.{Named}
 use Rattle.ls_places.specs.declared.places.Named.TheVariants as named
@@ -38,7 +39,9 @@ use Rattle.kahn_model.specs.Causality.{InTable}
 use Rattle.kahn_model.specs.Fullness.{All, HasKey}
 use Rattle.kahn_model.specs.Reads as R
 use Rattle.kahn_model.specs.Reads.{Shape, Needs, Formed, Reading, nothing, now_only, together, earlier, all_needs, every_needs, clocks_read, around_keys, arm_keys, clock_keys, bound_keys, start_keys, name_key}
-use Rattle.kahn_model.specs.Table.{row_keys}
+use Rattle.kahn_model.specs.Table.{row_keys, same_key}
+use Rattle.causality_links.specs.Close.{Scoped}
+use Rattle.causality_links.proofs.Causes.{block_name}
 use Rattle.causality_premises.specs.Premises.{There, AllThere, ClockThere, BoundThere, NoteThere, PlaceThere, ArmsThere, NamesThere, WholeThere, SiteThere, VariableThere, Ranges}
 
 each_left : {A : Type 0} (Q : A → Type 0) (xs ys : List A) → Each Q (xs ++ ys) → Each Q xs
@@ -52,6 +55,38 @@ each_right Q (x ∷ xs) ys a = each_right Q xs ys a.1
 each_both : {A : Type 0} (Q : A → Type 0) (xs ys : List A) → Each Q xs → Each Q ys → Each Q (xs ++ ys)
 each_both Q [] ys a b = b
 each_both Q (x ∷ xs) ys a b = (a.0, each_both Q xs ys a.1 b)
+
+-- rows by number
+
+same_number : (x : ℕ) → x == x ≡ true
+same_number x = eq-eqb x x refl
+
+has_left : (k : Key) (xs ys : List Key) → HasKey k xs → HasKey k (xs ++ ys)
+has_left k [] ys h = absurd h
+has_left k (x ∷ xs) ys (inl e) = inl e
+has_left k (x ∷ xs) ys (inr h) = inr (has_left k xs ys h)
+
+has_right : (k : Key) (xs ys : List Key) → HasKey k ys → HasKey k (xs ++ ys)
+has_right k [] ys h = h
+has_right k (x ∷ xs) ys h = inr (has_right k xs ys h)
+
+keys_in : (f : ℕ → Key) → ((x : ℕ) → same_key (f x) (f x) ≡ true) → (n i k : ℕ) → i ≤ k → suc k ≤ i + n → HasKey (f k) (map f (count_up n i))
+keys_in f self zero i k low high = absurd (omega (arith, low, high))
+keys_in f self (suc n) i k low high = elim (cases_lt i k) [
+  | inl l ↦ inr (keys_in f self n (suc i) k (omega (arith, l)) (omega (arith, high)))
+  | inr g ↦ let e : i ≡ k = omega (arith, low, g) in inl (subst (λ z. same_key (f z) (f k) ≡ true) (sym e) (self k))
+]
+
+nth_below : {X : Type 0} (xs : List X) (k : ℕ) (x : X) → nth xs k ≡ Some x → suc k ≤ length xs
+nth_below [] k x e = absurd (cc)
+nth_below (y ∷ xs) zero x e = omega arith
+nth_below (y ∷ xs) (suc k) x e = let h = nth_below xs k x e in omega (arith, h)
+
+not_below : (m n : ℕ) → nat_lt m n ≡ false → n ≤ m
+not_below m n e = elim (cases_lt m n) [
+  | inl l ↦ let h = lt-ltb m n l in absurd (cc)
+  | inr g ↦ omega (arith, g)
+]
 
 module _ (d : Definition) (shapes : List Shape) where
   abbrev A : List Key → Type 0
@@ -409,3 +444,201 @@ module _ (d : Definition) (shapes : List Shape) where
 
     whole_in : (k : ℕ) → In (R.whole_needs d shapes k)
     whole_in k = let w = whole_there d.places.exprs k r.exprs in needs_there (whole_of d k).place (whole_of d k).expr w.place w.notes
+
+    -- variables and signals by number
+
+    abbrev count : ℕ
+    count = length d.places.vars
+
+    abbrev names_from : List Key
+    names_from = map key.Name (count_up (length d.places.names) (length d.params))
+
+    abbrev resets_from : List Key
+    resets_from = map key.Reset (count_up (length d.places.resets) 0)
+
+    abbrev variables_from : List Key
+    variables_from = map key.Var (count_up count 0)
+
+    abbrev starts_from : List Key
+    starts_from = map key.Start (count_up count 0)
+
+    var_row : (x : ℕ) → suc x ≤ count → There d shapes (key.Var x)
+    var_row x l =
+        let z : suc x ≤ 0 + count = omega (arith, l) in
+        has_left (key.Var x) ((variables_from ++ starts_from) ++ names_from) resets_from
+        (has_left (key.Var x) (variables_from ++ starts_from) names_from (has_left (key.Var x) variables_from starts_from (keys_in key.Var same_number count 0 x (omega arith) z)))
+
+    start_row : (x : ℕ) → suc x ≤ count → There d shapes (key.Start x)
+    start_row x l =
+        let z : suc x ≤ 0 + count = omega (arith, l) in
+        has_left (key.Start x) ((variables_from ++ starts_from) ++ names_from) resets_from
+        (has_left (key.Start x) (variables_from ++ starts_from) names_from (has_right (key.Start x) variables_from starts_from (keys_in key.Start same_number count 0 x (omega arith) z)))
+
+    abbrev Below : Option ℕ → Type 0
+    Below None = Unit {0}
+    Below (Some k) = suc k ≤ count
+
+    below_if : (c : Bool) (k : ℕ) (o : Option ℕ) → suc k ≤ count → Below o → Below (if c then Some k else o)
+    below_if true k o l h = l
+    below_if false k o l h = h
+
+    signal_below : (x : ℕ) (p : List InnerArm) (ws : List Variable) (k : ℕ) → count ≡ k + length ws → Below (signal_in x p ws k)
+    signal_below x p [] k e = tt
+    signal_below x p (w ∷ ws) k e = below_if (w.name == x && starts_with p w.list) k (signal_in x p ws (suc k)) (omega (arith, e)) (signal_below x p ws (suc k) (omega (arith, e)))
+
+    signal_key : (o : Option ℕ) → Below o → A (R.signal_keys_of d shapes o)
+    signal_key None h = tt
+    signal_key (Some k) h = (var_row k h, tt)
+
+    signal_there : (p : Place) (x : ℕ) → A (R.signal_keys d shapes p x)
+    signal_there p x = signal_key (signal_at d x (arms p)) (signal_below x (arms p) d.places.vars 0 (omega arith))
+
+    signals_there : (p : Place) (xs : List ℕ) → A (joined (map (R.signal_keys d shapes p) xs))
+    signals_there p [] = tt
+    signals_there p (x ∷ xs) = all_both (R.signal_keys d shapes p x) (joined (map (R.signal_keys d shapes p) xs)) (signal_there p x) (signals_there p xs)
+
+    param_if : (c : Bool) (ck : ClockTerm) (o : Option ClockTerm) → K ck → SomeThere o → SomeThere (if c then Some ck else o)
+    param_if true ck o a h = a
+    param_if false ck o a h = h
+
+    param_there : (x : ℕ) (ps : List Pat) (cks : List ClockTerm) → Each K cks → SomeThere (param_clock x ps cks)
+    param_there x [] [] h = tt
+    param_there x [] (ck ∷ cks) h = tt
+    param_there x (p ∷ ps) [] h = tt
+    param_there x (p ∷ ps) (ck ∷ cks) h = param_if (has_name x (names_of p)) ck (param_clock x ps cks) h.0 (param_there x ps cks h.1)
+
+    some_keys : (o : Option ClockTerm) → SomeThere o → A (R.some_clock_keys d shapes o)
+    some_keys None h = tt
+    some_keys (Some ck) h = h
+
+    signal_clock : (x : ℕ) (o : Option ℕ) → A (R.signal_clock_keys d shapes x o)
+    signal_clock x (Some k) = variable_clock k
+    signal_clock x None = some_keys (param_clock x d.params d.clocks) (param_there x d.params d.clocks r.clocks)
+
+    signal_here : (x : ℕ) (p : List InnerArm) → A (arm_keys p) → A (R.signal_here_keys d shapes x p)
+    signal_here x p a = all_both (R.signal_clock_keys d shapes x (signal_at d x p)) (arm_keys (signal_arms d x p)) (signal_clock x (signal_at d x p)) (within_there (signal_list d x p) p a)
+
+    -- rows of variables
+
+    right_in : (p : Place) (q : Right) → In (R.right_needs d shapes p q)
+    right_in p (rhs.Part pat k) = whole_in k
+    right_in p (rhs.Whole k) = whole_in k
+    right_in p (rhs.Pattern y pat) = now_in (R.signal_keys d shapes p y) (signal_there p y)
+
+    site_in : (inner : List InnerArm) (q more : Needs) → A (arm_keys inner) → In q → In more → In (R.site_needs d shapes inner q more)
+    site_in [] q more a h m = h
+    site_in (mj ∷ inner) q more a h m = both_in (together (now_only (arm_keys (mj ∷ inner))) q) more (both_in (now_only (arm_keys (mj ∷ inner))) q (now_in (arm_keys (mj ∷ inner)) a) h) m
+
+    sites_in : (more : Needs) (ss : List Site) → Each ST ss → In more → In (R.sites_needs d shapes more ss)
+    sites_in more [] h m = m
+    sites_in more (x ∷ ss) h m = site_in x.inner (R.right_needs d shapes x.place x.right) (R.sites_needs d shapes more ss) h.0.inner (right_in x.place x.right) (sites_in more ss h.1 m)
+
+    in_if : (c : Bool) (q m : Needs) → In q → In m → In (if c then q else m)
+    in_if true q m a h = a
+    in_if false q m a h = h
+
+    variable_in : (x : ℕ) (o : Option Variable) → (o ≡ nth d.places.vars x) → Maybe (VariableThere d shapes) o → In (R.variable_needs d shapes x o)
+    variable_in x None e h = none_in
+    variable_in x (Some w) e h =
+        let l : suc x ≤ count = nth_below d.places.vars x w (sym e) in
+        let last = last_of x (Some w) h (var_row x l) (start_row x l) in
+        let otherwise = in_if w.signal nothing (if lacks d (sites_of x d.places.sites) then R.last_needs_of d shapes x (Some w) else nothing) none_in
+        (in_if (lacks d (sites_of x d.places.sites)) (R.last_needs_of d shapes x (Some w)) nothing last none_in) in
+        both_in (now_only (R.variable_clock_keys d shapes x)) (R.sites_needs d shapes (R.otherwise_needs d shapes x w) (sites_of x d.places.sites)) (now_in (R.variable_clock_keys d shapes x) (variable_clock x))
+        (sites_in (R.otherwise_needs d shapes x w) (sites_of x d.places.sites) (sites_there x d.places.sites r.sites) otherwise)
+
+    start_in : (o : Option Start) → In (R.start_needs d shapes o)
+    start_in None = none_in
+    start_in (Some q) = whole_in q.right
+
+    variable_start : (o : Option Variable) → In (R.variable_start_needs d shapes o)
+    variable_start None = none_in
+    variable_start (Some w) = start_in (start_of w d.places.starts)
+
+    -- rows of blocks
+
+    guards_of : (gs : List Transition) → In (R.transitions_needs d shapes gs)
+    guards_of [] = none_in
+    guards_of (g ∷ gs) = both_in (R.whole_needs d shapes g.cond) (R.transitions_needs d shapes gs) (whole_in g.cond) (guards_of gs)
+
+    guards_in : (ts : List (ℕ × List Transition)) → In (R.guards_needs d shapes ts)
+    guards_in [] = none_in
+    guards_in (x ∷ ts) = both_in (R.transitions_needs d shapes x.1) (R.guards_needs d shapes ts) (guards_of x.1) (guards_in ts)
+
+    all_clocks_there : (xs : List (Whole Note)) → Each WT xs → Each K (all_clocks xs)
+    all_clocks_there [] h = tt
+    all_clocks_there (x ∷ xs) h = each_both K (clocks_in x.expr) (all_clocks xs) (clocks_notes x.expr h.0.notes) (all_clocks_there xs h.1)
+
+    mode_of : (o : Option ClockTerm) (q : Option ℕ) (p : Place) → SomeThere o → A (around_keys p) → A (R.mode_keys_of d shapes o q p)
+    mode_of (Some ck) q p h a = h
+    mode_of None (Some x) p h a = signal_here x (arms p) (arms_there p a)
+    mode_of None None p h a = arms_there p a
+
+    mode_there : (m : ℕ) (p : Place) → A (around_keys p) → A (R.mode_keys d shapes m p)
+    mode_there m p a = mode_of (mode_clock m d.places.exprs) (tested_outside d m) p (or_mode m (all_clocks d.places.exprs) (all_clocks_there d.places.exprs r.exprs)) a
+
+    present_there : (xs : List ℕ) (p : Place) → A (around_keys p) → A (R.present_keys d shapes xs p)
+    present_there [] p a = arms_there p a
+    present_there (x ∷ xs) p a = signal_here x (arms p) (arms_there p a)
+
+    abbrev NamedThere : ℕ → Option Named → Type 0
+    NamedThere m None = Unit {0}
+    NamedThere m (Some (named.Clock x)) = Unit {0}
+    NamedThere m (Some (named.Match k all p)) = Unit {0}
+    NamedThere m (Some (named.Present xs p)) = A (around_keys p)
+    NamedThere m (Some (named.Active all p)) = A (around_keys p) × There d shapes (key.Name (m + 1))
+    NamedThere m (Some (named.Tested all p)) = A (around_keys p) × There d shapes (key.Name (m - 1))
+
+    named_at : (ns : List Named) (m i : ℕ) → NamesThere d shapes m ns → NamedThere (m + i) (nth ns i)
+    named_at [] m i h = tt
+    named_at (named.Clock x ∷ ns) m zero h = tt
+    named_at (named.Match k all p ∷ ns) m zero h = tt
+    named_at (named.Present xs p ∷ ns) m zero h = h.0
+    named_at (named.Active all p ∷ ns) m zero h = let z : m ≡ m + 0 = omega arith in (h.0, subst (λ j. There d shapes (key.Name (j + 1))) z h.1)
+    named_at (named.Tested all p ∷ ns) m zero h = let z : m ≡ m + 0 = omega arith in (h.0, subst (λ j. There d shapes (key.Name (j - 1))) z h.1)
+    named_at (named.Clock x ∷ ns) m (suc i) h = let z : suc m + i ≡ m + suc i = omega arith in subst (λ j. NamedThere j (nth ns i)) z (named_at ns (suc m) i h)
+    named_at (named.Match k all p ∷ ns) m (suc i) h = let z : suc m + i ≡ m + suc i = omega arith in subst (λ j. NamedThere j (nth ns i)) z (named_at ns (suc m) i h)
+    named_at (named.Present xs p ∷ ns) m (suc i) h = let z : suc m + i ≡ m + suc i = omega arith in subst (λ j. NamedThere j (nth ns i)) z (named_at ns (suc m) i h.1)
+    named_at (named.Active all p ∷ ns) m (suc i) h = let z : suc m + i ≡ m + suc i = omega arith in subst (λ j. NamedThere j (nth ns i)) z (named_at ns (suc m) i h.2)
+    named_at (named.Tested all p ∷ ns) m (suc i) h = let z : suc m + i ≡ m + suc i = omega arith in subst (λ j. NamedThere j (nth ns i)) z (named_at ns (suc m) i h.2)
+
+    name_in : (m : ℕ) (o : Option Named) → NamedThere m o → In (R.name_needs d shapes m o)
+    name_in m None h = none_in
+    name_in m (Some (named.Clock x)) h = none_in
+    name_in m (Some (named.Match k all p)) h =
+        let ck = (whole_of d k).expr.note.ck in
+        both_in (now_only (clock_keys d shapes ck)) (R.whole_needs d shapes k) (now_in (clock_keys d shapes ck) (whole_clock k)) (whole_in k)
+    name_in m (Some (named.Present xs p)) h =
+        now_in (R.present_keys d shapes xs p ++ joined (map (R.signal_keys d shapes p) xs)) (all_both (R.present_keys d shapes xs p) (joined (map (R.signal_keys d shapes p) xs)) (present_there xs p h) (signals_there p xs))
+    name_in m (Some (named.Active all p)) h =
+        let ks = R.mode_keys d shapes m p ++ key.Name (m + 1) ∷ [] in
+        both_in (now_only ks) (R.guards_needs d shapes all) (now_in ks (all_both (R.mode_keys d shapes m p) (key.Name (m + 1) ∷ []) (mode_there m p h.0) (h.1, tt))) (guards_in all)
+    name_in m (Some (named.Tested all p)) h =
+        let ks = R.mode_keys d shapes (m - 1) p ++ around_keys p in
+        let one = now_only (key.Name (m - 1) ∷ []) in
+        both_in (now_only ks) (earlier (together one (R.guards_needs d shapes all))) (now_in ks (all_both (R.mode_keys d shapes (m - 1) p) (around_keys p) (mode_there (m - 1) p h.0) h.0))
+        (earlier_in (together one (R.guards_needs d shapes all)) (both_in one (R.guards_needs d shapes all) (now_in (key.Name (m - 1) ∷ []) (h.1, tt)) (guards_in all)))
+
+    reset_in : (o : Option ℕ) → In (R.reset_needs d shapes o)
+    reset_in None = none_in
+    reset_in (Some k) = whole_in k
+
+    key_in : (k : Key) → HasKey k (row_keys d) → In (R.key_needs d shapes k)
+    key_in (key.Var x) h = variable_in x (nth d.places.vars x) refl (each_nth (VariableThere d shapes) d.places.vars x r.vars)
+    key_in (key.Start x) h = variable_start (nth d.places.vars x)
+    key_in (key.Reset q) h = reset_in (nth d.places.resets q)
+    key_in (key.Name m) h =
+        let low : length d.params ≤ m = not_below m (length d.params) (block_name d m h) in
+        let z : length d.params + (m - length d.params) ≡ m = omega (arith, low) in
+        name_in m (nth d.places.names (m - length d.params)) (subst (λ j. NamedThere j (nth d.places.names (m - length d.params))) z (named_at d.places.names (length d.params) (m - length d.params) r.names))
+
+    exprs_in : (xs : List (Whole Note)) → Each WT xs → All (λ (w : Whole Note). InTable d (R.needs_at d shapes w.place w.expr)) xs
+    exprs_in [] h = tt
+    exprs_in (x ∷ xs) h = (needs_there x.place x.expr h.0.place h.0.notes, exprs_in xs h.1)
+
+    pub scoped : Scoped d shapes
+    scoped = record {
+      rows = key_in;
+      exprs = exprs_in d.places.exprs r.exprs;
+      result = needs_there [] d.result tt r.result;
+    }
