@@ -58,19 +58,19 @@ each_both Q (x ∷ xs) ys a b = (a.0, each_both Q xs ys a.1 b)
 
 -- rows by number
 
-same_number : (x : ℕ) → x == x ≡ true
+pub same_number : (x : ℕ) → x == x ≡ true
 same_number x = eq-eqb x x refl
 
-has_left : (k : Key) (xs ys : List Key) → HasKey k xs → HasKey k (xs ++ ys)
+pub has_left : (k : Key) (xs ys : List Key) → HasKey k xs → HasKey k (xs ++ ys)
 has_left k [] ys h = absurd h
 has_left k (x ∷ xs) ys (inl e) = inl e
 has_left k (x ∷ xs) ys (inr h) = inr (has_left k xs ys h)
 
-has_right : (k : Key) (xs ys : List Key) → HasKey k ys → HasKey k (xs ++ ys)
+pub has_right : (k : Key) (xs ys : List Key) → HasKey k ys → HasKey k (xs ++ ys)
 has_right k [] ys h = h
 has_right k (x ∷ xs) ys h = inr (has_right k xs ys h)
 
-keys_in : (f : ℕ → Key) → ((x : ℕ) → same_key (f x) (f x) ≡ true) → (n i k : ℕ) → i ≤ k → suc k ≤ i + n → HasKey (f k) (map f (count_up n i))
+pub keys_in : (f : ℕ → Key) → ((x : ℕ) → same_key (f x) (f x) ≡ true) → (n i k : ℕ) → i ≤ k → suc k ≤ i + n → HasKey (f k) (map f (count_up n i))
 keys_in f self zero i k low high = absurd (omega (arith, low, high))
 keys_in f self (suc n) i k low high = elim (cases_lt i k) [
   | inl l ↦ inr (keys_in f self n (suc i) k (omega (arith, l)) (omega (arith, high)))

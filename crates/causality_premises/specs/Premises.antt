@@ -1,9 +1,13 @@
 -- What the link from causality to the model supposes of a body: all that is read is a row of its table.
-use Rattle.std.specs.Prelude.{ℕ, suc, ◌+◌, ◌-◌, List, [], ◌∷◌, length}
+use Rattle.std.specs.Prelude.{◌≡◌, ℕ, suc, ◌+◌, ◌-◌, List, [], ◌∷◌, length, Option}
+use Rattle.ls_ast.specs.declared.tree.BodyOf.{BodyOf}
+use Rattle.ls_ast.specs.declared.tree.Plain.{Plain}
 use Rattle.ls_terms.specs.declared.clocks.ClockTerm.{ClockTerm}
 use Rattle.ls_sig.specs.declared.binder.Binder.{Binder}
 use Rattle.ls_sig.specs.declared.binder.Binder.TheVariants as b
 use Rattle.ls_sig.specs.declared.binder.Note.{Note}
+use Rattle.ls_sig.specs.declared.binder.Use.{Use}
+use Rattle.ls_places.specs.Definitions.{definition_of}
 use Rattle.ls_places.specs.Places.{Place, InnerArm}
 use Rattle.ls_places.specs.declared.places.Named.{Named}
 use Rattle.ls_places.specs.declared.places.Named.TheVariants as named
@@ -14,7 +18,10 @@ use Rattle.ls_places.specs.declared.definition.Key.{Key}
 use Rattle.ls_places.specs.declared.definition.Key.TheVariants as key
 use Rattle.ls_places.specs.declared.definition.Definition.{Definition}
 use Rattle.tree_notes.specs.Each.{Each}
+use Rattle.tree_notes.specs.Noted.{in_body}
 use Rattle.tree_notes.specs.Order.{notes}
+use Rattle.scope_rules.specs.Faults.{Judged}
+use Rattle.scope_rules.specs.Resolved.{resolved_body}
 use Rattle.kahn_model.specs.Fullness.{All, HasKey}
 use Rattle.kahn_model.specs.Reads.{Shape, around_keys, arm_keys, clock_keys}
 use Rattle.kahn_model.specs.Table.{row_keys}
@@ -80,3 +87,24 @@ module _ (d : Definition) (shapes : List Shape) where
 -- Then all that the model reads is a row of the body.
 abbrev pub ScopedByRanges : Type 0
 ScopedByRanges = (d : Definition) (shapes : List Shape) → Ranges d shapes → Scoped d shapes
+
+-- the clock of a note, and what it restarts by
+pub record NoteClocked (d : Definition) (shapes : List Shape) (n : Note) : Type 0 where
+  pub clock : ClockThere d shapes n.ck
+  pub restarts : Each (λ x. There d shapes (key.Var x)) n.restarts
+
+-- what the rules of clocks are to see to: the clocks that are noted name what is there
+pub record Clocked (d : Definition) (shapes : List Shape) : Type 0 where
+  pub clocks : Each (ClockThere d shapes) d.clocks
+  pub exprs : Each (λ (w : Whole Note). Each (NoteClocked d shapes) (notes Note w.expr)) d.places.exprs
+
+-- the note of a resolved tree
+abbrev pub use_of : Note → Use
+use_of n = record { bound = n.bound }
+
+-- The rest of it is so in each annotated definition whose tree is a resolved one.
+abbrev pub ReadsOfScope : Type 0
+ReadsOfScope =
+    (j : Judged Plain) (cases : ℕ → Option ℕ) (ns : List Note) (body : BodyOf Note) (shapes : List Shape)
+    → in_body Note Use use_of body ≡ resolved_body j
+    → Clocked (definition_of cases j.params ns body) shapes → Scoped (definition_of cases j.params ns body) shapes
