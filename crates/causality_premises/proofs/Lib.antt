@@ -1,3 +1,4 @@
+mod Clocks
 mod Found
 mod Scope
 mod Within
