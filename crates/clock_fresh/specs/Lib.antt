@@ -1,0 +1,2 @@
+pub mod IsFresh
+pub mod Shapes

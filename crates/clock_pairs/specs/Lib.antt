@@ -1,0 +1,5 @@
+pub mod Entries
+pub mod Scene
+pub mod Sight
+pub mod Terms
+pub mod Walks

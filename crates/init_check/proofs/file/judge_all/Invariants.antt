@@ -1,0 +1,7 @@
+use Rattle.std.proofs.Common.{◌≡◌, ◌++◌, take}
+use Rattle.init_rules.specs.Files as spec
+use Rattle.init_check.specs.Judged as own
+use Rattle.init_check.proofs.file.judge_all.Given as goal
+
+abbrev pub invariant-loop-item : goal.invariant-loop-item
+invariant-loop-item l = record { all : l.sigs ≡ l.before ++ l.done; so_far : spec.Judged l.before (own.lets (take l.item-index l.items)) l.done }

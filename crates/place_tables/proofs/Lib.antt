@@ -1,0 +1,5 @@
+pub mod Lists
+pub mod Grouping
+pub mod Lacking
+pub mod Inside
+pub mod Holding

@@ -1,0 +1,4 @@
+pub mod Inferred
+pub mod Made
+pub mod Stages
+pub mod Tables

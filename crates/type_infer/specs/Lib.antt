@@ -1,0 +1,3 @@
+pub mod Constructors
+pub mod Inference
+pub mod Files
