@@ -1,4 +1,5 @@
 mod Clocks
+mod Files
 mod Found
 mod Scope
 mod Within

@@ -1,7 +1,10 @@
 -- What the link from causality to the model supposes of a body: all that is read is a row of its table.
-use Rattle.std.specs.Prelude.{◌≡◌, ℕ, suc, ◌+◌, ◌-◌, ◌<◌, List, [], ◌∷◌, ◌++◌, length, Option}
+use Rattle.std.specs.Prelude.{◌≡◌, ℕ, suc, ◌+◌, ◌-◌, ◌<◌, List, [], ◌∷◌, ◌++◌, map, length, Option}
 use Rattle.ls_ast.specs.declared.tree.BodyOf.{BodyOf}
+use Rattle.ls_ast.specs.declared.tree.DefOf.{DefOf}
+use Rattle.ls_ast.specs.declared.tree.FileOf.{FileOf}
 use Rattle.ls_ast.specs.declared.tree.Plain.{Plain}
+use Rattle.ls_sig.specs.declared.env.Env.{Env}
 use Rattle.ls_terms.specs.declared.clocks.ClockTerm.{ClockTerm, fold-ClockTerm}
 use Rattle.ls_terms.specs.declared.clocks.ClockTerm.TheOpen.{ClockTerm-F}
 use Rattle.ls_places.specs.Patterns.{joined}
@@ -9,7 +12,7 @@ use Rattle.ls_sig.specs.declared.binder.Binder.{Binder}
 use Rattle.ls_sig.specs.declared.binder.Binder.TheVariants as b
 use Rattle.ls_sig.specs.declared.binder.Note.{Note}
 use Rattle.ls_sig.specs.declared.binder.Use.{Use}
-use Rattle.ls_places.specs.Definitions.{definition_of}
+use Rattle.ls_places.specs.Definitions.{definition_of, definitions}
 use Rattle.ls_places.specs.Places.{Place, InnerArm}
 use Rattle.ls_places.specs.declared.places.Named.{Named}
 use Rattle.ls_places.specs.declared.places.Named.TheVariants as named
@@ -20,10 +23,11 @@ use Rattle.ls_places.specs.declared.definition.Key.{Key}
 use Rattle.ls_places.specs.declared.definition.Key.TheVariants as key
 use Rattle.ls_places.specs.declared.definition.Definition.{Definition}
 use Rattle.tree_notes.specs.Each.{Each}
-use Rattle.tree_notes.specs.Noted.{in_body}
+use Rattle.tree_notes.specs.Noted.{in_body, in_definition}
 use Rattle.tree_notes.specs.Order.{notes}
 use Rattle.scope_rules.specs.Faults.{Judged}
 use Rattle.scope_rules.specs.Resolved.{resolved_body}
+use Rattle.scope_rules.specs.After.{resolved}
 use Rattle.kahn_model.specs.Fullness.{All, HasKey}
 use Rattle.kahn_model.specs.Reads.{Shape, around_keys, arm_keys, clock_keys}
 use Rattle.kahn_model.specs.Table.{row_keys}
@@ -123,3 +127,9 @@ ReadsOfScope =
     (j : Judged Plain) (cases : ℕ → Option ℕ) (ns : List Note) (body : BodyOf Note) (shapes : List Shape)
     → in_body Note Use use_of body ≡ resolved_body j
     → ClocksKnown (definition_of cases j.params ns body) → Scoped (definition_of cases j.params ns body) shapes
+
+-- And so in each definition of an annotated file.
+abbrev pub FilesRead : Type 0
+FilesRead =
+    (cases : ℕ → Option ℕ) (env : Env) (file : FileOf Plain) (tree : List (DefOf Note)) → map (in_definition Note Use use_of) tree ≡ (resolved env file).defs
+    → Each ClocksKnown (definitions cases tree) → Each (λ (d : Definition). (shapes : List Shape) → Scoped d shapes) (definitions cases tree)
