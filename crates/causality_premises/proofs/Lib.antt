@@ -1,3 +1,5 @@
+mod Clocks
+mod Files
 mod Found
 mod Scope
 mod Within

@@ -1,6 +1,7 @@
 -- What stands in the body of a resolved definition names what is there.
-use Rattle.std.specs.Prelude.{◌≡◌, refl, ℕ, zero, suc, ◌+◌, ◌≤◌, Bool, List, [], ◌∷◌, ◌++◌, map, length, slice_get, Option, Some, None}
-use Rattle.std.proofs.Common.{ap, ap₂, sym, ◌∙◌, subst, arith}
+use Rattle.std.specs.Prelude.{◌≡◌, refl, ℕ, zero, suc, ◌+◌, ◌<◌, ◌≤◌, Bool, List, [], ◌∷◌, ◌++◌, map, length, slice_get, Option, Some, None}
+use Rattle.std.proofs.Common.{ap, ap₂, sym, ◌∙◌, subst, arith, get_or}
+use Rattle.std.proofs.lemmas.List.Elements.{All-get_or}
 use Rattle.ls_ast.specs.declared.tree.BodyOf.{BodyOf}
 use Rattle.ls_ast.specs.declared.tree.Expr.{Expr}
 use Rattle.ls_ast.specs.declared.tree.Plain.{Plain}
@@ -11,7 +12,12 @@ use Rattle.ls_sig.specs.declared.binder.Use.{Use}
 use Rattle.ls_places.specs.Clocks.{is_signal}
 use Rattle.ls_places.specs.Definitions.{definition_of}
 use Rattle.ls_places.specs.Places as F
-use Rattle.ls_places.specs.Search.{count_up}
+use Rattle.ls_places.specs.Search.{count_up, nth}
+use Rattle.ls_places.specs.Ranges.{NamedBelow}
+use Rattle.ls_places.specs.declared.places.Named.{Named}
+use Rattle.ls_places.specs.declared.places.Named.TheVariants as named
+use Rattle.ls_places.proofs.Ranged.{found_in_range}
+use Rattle.ls_terms.specs.declared.clocks.ClockTerm.{ClockTerm}
 use Rattle.ls_places.specs.declared.places.Whole.{Whole}
 use Rattle.ls_places.specs.declared.definition.Key.{Key}
 use Rattle.ls_places.specs.declared.definition.Key.TheVariants as key
@@ -19,7 +25,7 @@ use Rattle.ls_places.specs.declared.definition.Definition.{Definition}
 use Rattle.tree_notes.specs.Each.{Each}
 use Rattle.tree_notes.specs.Noted.{in_body}
 use Rattle.tree_notes.specs.Order as Or
-use Rattle.kahn_model.specs.Reads.{Shape}
+use Rattle.kahn_model.specs.Reads.{Shape, arm_keys}
 use Rattle.scope_rules.specs.Places as P
 use Rattle.scope_rules.specs.Places.{Place, reads, tests}
 use Rattle.scope_rules.specs.Claims.{uses}
@@ -31,9 +37,10 @@ use Rattle.scope_rules.proofs.AsFound.{exprs_alike, variables_alike}
 use Rattle.scope_rules.proofs.InSight.{uses_in_sight}
 use Rattle.type_premises.proofs.Trees as Tr
 use Rattle.causality_links.specs.Close.{Scoped}
-use Rattle.causality_premises.specs.Premises.{There, BoundThere, NoteThere, NoteClocked, Clocked, PlaceThere, WholeThere, Ranges, use_of}
+use Rattle.causality_premises.specs.Premises.{There, BoundThere, NoteThere, ClockThere, ClockKnown, NoteKnown, ClocksKnown, PlaceThere, AllThere, WholeThere, Ranges, use_of}
+use Rattle.causality_premises.proofs.Clocks.{clock_there}
 use Rattle.causality_premises.proofs.Found as Fo
-use Rattle.causality_premises.proofs.Within.{scoped, same_number, has_left, has_right, keys_in}
+use Rattle.causality_premises.proofs.Within.{scoped, arms_there, same_number, has_left, has_right, keys_in}
 
 each_right : {A : Type 0} (Q : A → Type 0) (xs ys : List A) → Each Q (xs ++ ys) → Each Q ys
 each_right Q [] ys a = a
@@ -59,6 +66,20 @@ there_below : {A : Type 0} (xs : List A) (k : ℕ) (x : A) → slice_get xs k �
 there_below [] k x e = absurd (cc)
 there_below (y ∷ xs) zero x e = omega arith
 there_below (y ∷ xs) (suc k) x e = let h = there_below xs k x e in omega (arith, h)
+
+nth_below : {A : Type 0} (xs : List A) (k : ℕ) (x : A) → nth xs k ≡ Some x → suc k ≤ length xs
+nth_below [] k x e = absurd (cc)
+nth_below (y ∷ xs) zero x e = omega arith
+nth_below (y ∷ xs) (suc k) x e = let h = nth_below xs k x e in omega (arith, h)
+
+abbrev or_item : {A : Type 0} → A → Option A → A
+or_item y (Some x) = x
+or_item y None = y
+
+nth_or : {A : Type 0} (xs : List A) (k : ℕ) (x z : A) → nth xs k ≡ Some x → get_or xs k z ≡ x
+nth_or [] k x z e = absurd (cc)
+nth_or (y ∷ xs) zero x z e = ap (or_item y) e
+nth_or (y ∷ xs) (suc k) x z e = nth_or xs k x z e
 
 module _ (j : Judged Plain) (cases : ℕ → Option ℕ) (ns : List Note) (body : BodyOf Note) (shapes : List Shape) (is : in_body Note Use use_of body ≡ R.resolved_body j) where
   abbrev d : Definition
@@ -142,14 +163,34 @@ module _ (j : Judged Plain) (cases : ℕ → Option ℕ) (ns : List Note) (body 
   wholes_bound : Each (λ (w : Whole Note). Each (λ (n : Note). BoundThere d shapes n.bound) (Or.notes Note w.expr)) d.places.exprs
   wholes_bound = each_mapped whole_key BoundAll d.places.exprs (subst (Each BoundAll) (exprs_alike Note first cases signal body) (all_bound (Tr.readings use_of j body is) (Tr.all_notes use_of j body is)))
 
-  notes_there : (e : Expr Note) → Each (λ (n : Note). BoundThere d shapes n.bound) (Or.notes Note e) → Each (NoteClocked d shapes) (Or.notes Note e) → Each (NoteThere d shapes) (Or.notes Note e)
-  notes_there e x y = each_two (λ (n : Note). BoundThere d shapes n.bound) (NoteClocked d shapes) (NoteThere d shapes) (Or.notes Note e) (λ n p q. record { clock = q.clock; bound = p; restarts = q.restarts }) x y
+  -- clocks
+
+  clock_row : (i x : ℕ) → nth d.places.names i ≡ Some (named.Clock x) → There d shapes (key.Var x)
+  clock_row i x e =
+      let l = nth_below d.places.names i (named.Clock x) e in
+      let below : NamedBelow (length d.places.vars) (length d.places.exprs) (get_or d.places.names i (named.Clock x)) =
+      All-get_or (NamedBelow (length d.places.vars) (length d.places.exprs)) d.places.names i (named.Clock x) (omega (arith, l)) (found_in_range Note first cases signal body).names in
+      let known : x < length d.places.vars = subst (NamedBelow (length d.places.vars) (length d.places.exprs)) (nth_or d.places.names i (named.Clock x) (named.Clock x) e) below in
+      var_row x (omega (arith, known))
+
+  placed : Each (λ (w : Whole Note). AllThere d shapes (arm_keys (F.arms w.place))) d.places.exprs
+  placed = each_weaker (λ (w : Whole Note). PlaceThere d shapes w.place) (λ (w : Whole Note). AllThere d shapes (arm_keys (F.arms w.place))) d.places.exprs (λ w p. arms_there d shapes w.place p) good.exprs
+
+  there : (ck : ClockTerm) → ClockKnown d ck → ClockThere d shapes ck
+  there = clock_there d shapes placed block_row clock_row
+
+  notes_there : (e : Expr Note) → Each (λ (n : Note). BoundThere d shapes n.bound) (Or.notes Note e) → Each (NoteKnown d) (Or.notes Note e) → Each (NoteThere d shapes) (Or.notes Note e)
+  notes_there e x y = each_two (λ (n : Note). BoundThere d shapes n.bound) (NoteKnown d) (NoteThere d shapes) (Or.notes Note e) (λ n p q. record {
+    clock = there n.ck q.clock;
+    bound = p;
+    restarts = each_weaker (λ x. x < length d.places.vars) (λ x. There d shapes (key.Var x)) n.restarts (λ x l. var_row x (omega (arith, l))) q.restarts;
+  }) x y
 
   abbrev Clear : Whole Note → Type 0
   Clear w = Each (NoteThere d shapes) (Or.notes Note w.expr)
 
-  wholes_clear : Clocked d shapes → Each Clear d.places.exprs
-  wholes_clear c = each_two (λ (w : Whole Note). Each (λ (n : Note). BoundThere d shapes n.bound) (Or.notes Note w.expr)) (λ (w : Whole Note). Each (NoteClocked d shapes) (Or.notes Note w.expr)) Clear d.places.exprs (λ w x y. notes_there w.expr x y) wholes_bound c.exprs
+  wholes_clear : ClocksKnown d → Each Clear d.places.exprs
+  wholes_clear c = each_two (λ (w : Whole Note). Each (λ (n : Note). BoundThere d shapes n.bound) (Or.notes Note w.expr)) (λ (w : Whole Note). Each (NoteKnown d) (Or.notes Note w.expr)) Clear d.places.exprs (λ w x y. notes_there w.expr x y) wholes_bound c.exprs
 
   -- the result is the last of the whole expressions
   abbrev before : F.Found Note
@@ -158,11 +199,11 @@ module _ (j : Judged Plain) (cases : ℕ → Option ℕ) (ns : List Note) (body 
   result_clear : Each Clear d.places.exprs → Each (NoteThere d shapes) (Or.notes Note d.result)
   result_clear a = (each_right Clear before.exprs (record { expr = body.result; place = [] } ∷ []) a).0
 
-  pub reads_scoped : Clocked d shapes → Scoped d shapes
+  pub reads_scoped : ClocksKnown d → Scoped d shapes
   reads_scoped c =
       let clear = wholes_clear c in
       scoped d shapes (record {
-        clocks = c.clocks;
+        clocks = each_weaker (ClockKnown d) (ClockThere d shapes) d.clocks there c.clocks;
         result = result_clear clear;
         exprs = each_two (λ (w : Whole Note). PlaceThere d shapes w.place) Clear (WholeThere d shapes) d.places.exprs (λ w p q. record { place = p; notes = q }) good.exprs clear;
         sites = good.sites;

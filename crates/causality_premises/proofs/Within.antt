@@ -82,7 +82,7 @@ nth_below [] k x e = absurd (cc)
 nth_below (y ∷ xs) zero x e = omega arith
 nth_below (y ∷ xs) (suc k) x e = let h = nth_below xs k x e in omega (arith, h)
 
-not_below : (m n : ℕ) → nat_lt m n ≡ false → n ≤ m
+pub not_below : (m n : ℕ) → nat_lt m n ≡ false → n ≤ m
 not_below m n e = elim (cases_lt m n) [
   | inl l ↦ let h = lt-ltb m n l in absurd (cc)
   | inr g ↦ omega (arith, g)
@@ -230,7 +230,7 @@ module _ (d : Definition) (shapes : List Shape) where
 
   -- places
 
-  arms_there : (p : Place) → A (around_keys p) → A (arm_keys (arms p))
+  pub arms_there : (p : Place) → A (around_keys p) → A (arm_keys (arms p))
   arms_there [] a = tt
   arms_there (frame.Reset r ∷ p) a = arms_there p a.1
   arms_there (frame.Arm m j ∷ p) a = (a.0, arms_there p a.1)

@@ -1,13 +1,18 @@
 -- What the link from causality to the model supposes of a body: all that is read is a row of its table.
-use Rattle.std.specs.Prelude.{◌≡◌, ℕ, suc, ◌+◌, ◌-◌, List, [], ◌∷◌, length, Option}
+use Rattle.std.specs.Prelude.{◌≡◌, ℕ, suc, ◌+◌, ◌-◌, ◌<◌, List, [], ◌∷◌, ◌++◌, map, length, Option}
 use Rattle.ls_ast.specs.declared.tree.BodyOf.{BodyOf}
+use Rattle.ls_ast.specs.declared.tree.DefOf.{DefOf}
+use Rattle.ls_ast.specs.declared.tree.FileOf.{FileOf}
 use Rattle.ls_ast.specs.declared.tree.Plain.{Plain}
-use Rattle.ls_terms.specs.declared.clocks.ClockTerm.{ClockTerm}
+use Rattle.ls_sig.specs.declared.env.Env.{Env}
+use Rattle.ls_terms.specs.declared.clocks.ClockTerm.{ClockTerm, fold-ClockTerm}
+use Rattle.ls_terms.specs.declared.clocks.ClockTerm.TheOpen.{ClockTerm-F}
+use Rattle.ls_places.specs.Patterns.{joined}
 use Rattle.ls_sig.specs.declared.binder.Binder.{Binder}
 use Rattle.ls_sig.specs.declared.binder.Binder.TheVariants as b
 use Rattle.ls_sig.specs.declared.binder.Note.{Note}
 use Rattle.ls_sig.specs.declared.binder.Use.{Use}
-use Rattle.ls_places.specs.Definitions.{definition_of}
+use Rattle.ls_places.specs.Definitions.{definition_of, definitions}
 use Rattle.ls_places.specs.Places.{Place, InnerArm}
 use Rattle.ls_places.specs.declared.places.Named.{Named}
 use Rattle.ls_places.specs.declared.places.Named.TheVariants as named
@@ -18,10 +23,11 @@ use Rattle.ls_places.specs.declared.definition.Key.{Key}
 use Rattle.ls_places.specs.declared.definition.Key.TheVariants as key
 use Rattle.ls_places.specs.declared.definition.Definition.{Definition}
 use Rattle.tree_notes.specs.Each.{Each}
-use Rattle.tree_notes.specs.Noted.{in_body}
+use Rattle.tree_notes.specs.Noted.{in_body, in_definition}
 use Rattle.tree_notes.specs.Order.{notes}
 use Rattle.scope_rules.specs.Faults.{Judged}
 use Rattle.scope_rules.specs.Resolved.{resolved_body}
+use Rattle.scope_rules.specs.After.{resolved}
 use Rattle.kahn_model.specs.Fullness.{All, HasKey}
 use Rattle.kahn_model.specs.Reads.{Shape, around_keys, arm_keys, clock_keys}
 use Rattle.kahn_model.specs.Table.{row_keys}
@@ -88,15 +94,28 @@ module _ (d : Definition) (shapes : List Shape) where
 abbrev pub ScopedByRanges : Type 0
 ScopedByRanges = (d : Definition) (shapes : List Shape) → Ranges d shapes → Scoped d shapes
 
--- the clock of a note, and what it restarts by
-pub record NoteClocked (d : Definition) (shapes : List Shape) (n : Note) : Type 0 where
-  pub clock : ClockThere d shapes n.ck
-  pub restarts : Each (λ x. There d shapes (key.Var x)) n.restarts
+-- the names that a clock is sampled on
+abbrev pub sampled_step : ClockTerm-F (List ℕ) → List ℕ
+sampled_step (ClockTerm-F.Var w) = []
+sampled_step (ClockTerm-F.On ms m k) = m ∷ ms
+sampled_step ClockTerm-F.Pointwise = []
+sampled_step (ClockTerm-F.Arrow all ms) = joined all ++ ms
 
--- what the rules of clocks are to see to: the clocks that are noted name what is there
-pub record Clocked (d : Definition) (shapes : List Shape) : Type 0 where
-  pub clocks : Each (ClockThere d shapes) d.clocks
-  pub exprs : Each (λ (w : Whole Note). Each (NoteClocked d shapes) (notes Note w.expr)) d.places.exprs
+abbrev pub names_sampled : ClockTerm → List ℕ
+names_sampled = fold-ClockTerm (List ℕ) sampled_step
+
+-- What the rules of clocks are to see to: clocks are sampled on names of the definition alone, its parameters or those of its body.
+module _ (d : Definition) where
+  abbrev pub ClockKnown : ClockTerm → Type 0
+  ClockKnown ck = Each (λ m. m < length d.params + length d.places.names) (names_sampled ck)
+
+  pub record NoteKnown (n : Note) : Type 0 where
+    pub clock : ClockKnown n.ck
+    pub restarts : Each (λ x. x < length d.places.vars) n.restarts
+
+  pub record ClocksKnown : Type 0 where
+    pub clocks : Each ClockKnown d.clocks
+    pub exprs : Each (λ (w : Whole Note). Each NoteKnown (notes Note w.expr)) d.places.exprs
 
 -- the note of a resolved tree
 abbrev pub use_of : Note → Use
@@ -107,4 +126,10 @@ abbrev pub ReadsOfScope : Type 0
 ReadsOfScope =
     (j : Judged Plain) (cases : ℕ → Option ℕ) (ns : List Note) (body : BodyOf Note) (shapes : List Shape)
     → in_body Note Use use_of body ≡ resolved_body j
-    → Clocked (definition_of cases j.params ns body) shapes → Scoped (definition_of cases j.params ns body) shapes
+    → ClocksKnown (definition_of cases j.params ns body) → Scoped (definition_of cases j.params ns body) shapes
+
+-- And so in each definition of an annotated file.
+abbrev pub FilesRead : Type 0
+FilesRead =
+    (cases : ℕ → Option ℕ) (env : Env) (file : FileOf Plain) (tree : List (DefOf Note)) → map (in_definition Note Use use_of) tree ≡ (resolved env file).defs
+    → Each ClocksKnown (definitions cases tree) → Each (λ (d : Definition). (shapes : List Shape) → Scoped d shapes) (definitions cases tree)

@@ -1,0 +1,4 @@
+pub mod Meeting
+pub mod Ranking
+pub mod Sizing
+pub mod Testing
