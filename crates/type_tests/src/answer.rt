@@ -21,6 +21,9 @@ pub enum Verdict {
 }
 
 fn tree(alloc: Global, text: &str) -> Option<File> {
+    if text.len() > 1_000_000 {
+        return None;
+    }
     match lex(alloc, text.as_bytes()) {
         Ok(tokens) => match parse(alloc, &tokens) {
             Ok(file) => Some(file),
