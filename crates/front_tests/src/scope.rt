@@ -1,5 +1,5 @@
-//! Resolution of names: which files have a fault of scope, where it stands, and the binders and
-//! marks of files that have none. In the tables `@` stands for the end of a line of a file.
+//! Resolution of names: which files have a fault of scope, and where it stands, also after an
+//! environment. In the tables `@` stands for the end of a line of a file.
 
 use crate::accepted::ACCEPTED;
 use ls_ast::{File, Mark};
@@ -154,87 +154,6 @@ fn files_without_a_fault(rt: HostRuntime) -> Result<(), Fail> {
     Ok(())
 }
 
-// The pieces of a text between `front` and `back`, with blanks between them.
-fn pieces(alloc: Global, text: &str, front: &str, back: &str) -> Result<String, NoMemory> {
-    let mut done = String::new(alloc);
-    let mut rest = text;
-    while let Some((_, after)) = rest.split_once(front) {
-        let (piece, after) = after.split_once(back).unwrap_or((after, ""));
-        if piece != "Nothing" {
-            done.push_str(piece)?;
-            done.push(' ')?;
-        }
-        rest = after;
-    }
-    Ok(done)
-}
-
-// The marks of the parameters of each definition, and the binders of the names in the order of the
-// tree, where a body's result stands before its equations.
-fn names(alloc: Global, resolved: &Resolved) -> Result<String, NoMemory> {
-    let text = format!(in alloc; "{:?}", resolved.defs)?;
-    let mut done = pieces(alloc, text.as_str(), "marks: List { items: ", " }")?;
-    let binders = pieces(alloc, text.as_str(), "bound: ", " }")?;
-    done.push_str(binders.as_str())?;
-    Ok(done)
-}
-
-// Files, and the marks and binders of their names.
-const NAMES: [(&str, &str); 10] = [
-    (
-        "let node sum x = s where rec s = x + (0 fby s)",
-        "[Data] Var(0) Param(0) Var(0) ",
-    ),
-    (
-        "type lamp = Off | On@let node next l = o where rec match l with Off -> do o = On done | On -> do o = Off done end",
-        "[Data] Var(0) Param(0) Case(0, 1) Case(0, 0) ",
-    ),
-    (
-        "let node keep x c = merge c (x when c) (0 whenot c)",
-        "[Data, Clock] Param(1) Param(1) Param(0) Param(1) ",
-    ),
-    (
-        "let node late x c = (c, x when c)",
-        "[Data, Clock] Param(1) Param(1) Param(0) ",
-    ),
-    (
-        "let add a b = a + b@let node iter f x = y where rec y = f x (0 fby y)@let node total x = iter add x",
-        "[Data, Data] [Comb, Data] [Data] Param(0) Param(1) Var(0) Param(0) Param(1) Var(0) Def(1) Def(0) Param(0) ",
-    ),
-    (
-        "let node tw g s = (run g 1, ?s)",
-        "[Seq, Signal] Param(0) Param(1) ",
-    ),
-    (
-        "let node f c = y where match c with true -> let n = 1 in do y = n done | false -> let n = 2 in do y = n + 1 done end",
-        "[Data] Var(1) Param(0) Var(0) Var(2) ",
-    ),
-    (
-        "let node h x = o where rec last o = 0 and o = last o + x",
-        "[Data] Var(0) Var(0) Param(0) ",
-    ),
-    (
-        "let node sg s = o where rec present s(v) -> do o = v done else do o = 0 done end",
-        "[Signal] Var(1) Var(0) ",
-    ),
-    (
-        "let node t (a, b) c = (b, a + c)",
-        "[Data, Data] Param(1) Param(0) Param(2) ",
-    ),
-];
-
-#[test]
-fn binders_and_marks(rt: HostRuntime) -> Result<(), Fail> {
-    let alloc = rt.alloc();
-    for (text, expected) in NAMES {
-        let file = tree(alloc, text)?;
-        let resolved = resolve(alloc, &file).ok().ok_or("a fault")?;
-        let found = names(alloc, &resolved)?;
-        assert_eq!(rt; found.as_str(), expected, "{text}");
-    }
-    Ok(())
-}
-
 // The signature of `let node sample x c = x when c`; types and clocks are not looked at.
 fn sample(alloc: Global, env: &mut Env) -> Result<Sig, NoMemory> {
     let mut marks = List::new(alloc);
@@ -284,22 +203,5 @@ fn files_after_an_environment(rt: HostRuntime) -> Result<(), Fail> {
         let found = answer(alloc, resolve_after(alloc, &env, &file))?;
         assert_eq!(rt; found.as_str(), expected, "{text}");
     }
-    Ok(())
-}
-
-#[test]
-fn numbers_after_an_environment(rt: HostRuntime) -> Result<(), Fail> {
-    let alloc = rt.alloc();
-    let env = environment(alloc)?;
-    let file = tree(
-        alloc,
-        "type u = A@let node f x c = (sample x c, Off, A)@let node g x c = f x c",
-    )?;
-    let resolved = resolve_after(alloc, &env, &file).ok().ok_or("a fault")?;
-    let found = names(alloc, &resolved)?;
-    assert_eq!(rt;
-        found.as_str(),
-        "[Data, Clock] [Data, Clock] Def(0) Param(0) Param(1) Case(0, 0) Case(1, 0) Def(1) Param(0) Param(1) "
-    );
     Ok(())
 }
