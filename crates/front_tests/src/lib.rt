@@ -3,9 +3,15 @@
 #![tactic(auto)]
 
 #[cfg(test)]
+mod accepted;
+#[cfg(test)]
 mod grammar;
 #[cfg(test)]
 mod places;
+#[cfg(test)]
+mod scope;
+#[cfg(test)]
+mod sizes;
 #[cfg(test)]
 mod terms;
 #[cfg(test)]

@@ -8,6 +8,7 @@ use ls_places::{CasePlaces, NoteSignals, Places, find, variables};
 use ls_sig::SignalNote;
 use std::alloc::Global;
 use std::test::Fail;
+use tree_notes::{Counter, renote_body};
 
 /// A note that says no more than whether the expression is a signal.
 #[derive(Clone, Copy, Debug)]
@@ -300,5 +301,23 @@ fn many_equations_and_many_names(rt: HostRuntime) -> Result<(), Fail> {
     assert!(rt; names == [1, 100_000, 2, 100_000]);
     let found = variables(alloc, 0, &Third(5), &NoteSignals, &many_names(alloc)?)?;
     assert!(rt; found.place_of(alloc, 99_999, &[])? == Some(99_999));
+    Ok(())
+}
+
+// How many notes a body has, as it is rebuilt with their numbers.
+fn renumbered(alloc: Global, body: &BodyOf<Sig>) -> Result<u32, NoMemory> {
+    let mut count = Counter { next: 0 };
+    let _numbered: BodyOf<u32> = renote_body(alloc, body, &mut count)?;
+    Ok(count.next)
+}
+
+// The result, and a right side for each equation, or one tuple with its parts.
+#[test]
+fn large_bodies_rebuilt(rt: HostRuntime) -> Result<(), Fail> {
+    let alloc = rt.alloc();
+    let equations = renumbered(alloc, &many_equations(alloc)?)?;
+    assert!(rt; equations == 100_001);
+    let names = renumbered(alloc, &many_names(alloc)?)?;
+    assert!(rt; names == 100_002);
     Ok(())
 }
