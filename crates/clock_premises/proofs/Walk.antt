@@ -115,7 +115,7 @@ abbrev opens : Named → Bool
 opens n = no_clock (Some n)
 
 abbrev opened : Option Bool → Bool
-opened None = true
+opened None = false
 opened (Some b) = b
 
 opened_at : (ns : List Named) (i : ℕ) → no_clock (nth ns i) ≡ opened (nth (map opens ns) i)
