@@ -1,1 +1,5 @@
 pub mod Placed
+pub mod Occurs
+pub mod Renamed
+pub mod Parts
+pub mod Moved

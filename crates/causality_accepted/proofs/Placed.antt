@@ -33,11 +33,11 @@ each_both : {A : Type 0} (Q : A → Type 0) (xs ys : List A) → Each Q xs → E
 each_both Q [] ys a b = b
 each_both Q (x ∷ xs) ys a b = (a.0, each_both Q xs ys a.1 b)
 
-end_nil : {A : Type 0} (xs : List A) → xs ++ [] ≡ xs
+pub end_nil : {A : Type 0} (xs : List A) → xs ++ [] ≡ xs
 end_nil [] = refl
 end_nil (x ∷ xs) = ap (λ z. x ∷ z) (end_nil xs)
 
-length_on : {A : Type 0} (xs ys : List A) → length (xs ++ ys) ≡ length xs + length ys
+pub length_on : {A : Type 0} (xs ys : List A) → length (xs ++ ys) ≡ length xs + length ys
 length_on [] ys = let z : length ys ≡ 0 + length ys = omega arith in z
 length_on (x ∷ xs) ys = let h = length_on xs ys in omega (arith, h)
 
@@ -56,7 +56,7 @@ pub record More {A : Type 0} (xs ys : List A) : Type 0 where
   pub list : List A
   pub is : ys ≡ xs ++ list
 
-more_none : {A : Type 0} (xs : List A) → More xs xs
+pub more_none : {A : Type 0} (xs : List A) → More xs xs
 more_none xs = record { list = []; is = sym (end_nil xs) }
 
 more_then : {A : Type 0} (xs ys zs : List A) → More xs ys → More ys zs → More xs zs
@@ -65,7 +65,7 @@ more_then xs ys zs a b = record { list = a.list ++ b.list; is = b.is ∙ ap (λ 
 more_one : {A : Type 0} (xs : List A) (x : A) → More xs (xs ++ x ∷ [])
 more_one xs x = record { list = x ∷ []; is = refl }
 
-map_on : {A B : Type 0} (f : A → B) (xs ys : List A) → map f (xs ++ ys) ≡ map f xs ++ map f ys
+pub map_on : {A B : Type 0} (f : A → B) (xs ys : List A) → map f (xs ++ ys) ≡ map f xs ++ map f ys
 map_on f [] ys = refl
 map_on f (x ∷ xs) ys = ap (λ z. f x ∷ z) (map_on f xs ys)
 
@@ -341,7 +341,7 @@ module _ (first : ℕ) (E : List (Whole Note)) (V : List Variable) (S : List (Op
     placed_from x l [] k i e = absurd (cc)
     placed_from x l (v ∷ vs) k i e = placed_if (v.name == x && same_arms v.list l) x k i v vs l refl (placed_from x l vs (suc k) i) e
 
-    listed_at : (x : ℕ) (l : List InnerArm) (vs : List Variable) (i : ℕ) → F.place_of x l vs 0 ≡ Some i → Listed vs l i
+    pub listed_at : (x : ℕ) (l : List InnerArm) (vs : List Variable) (i : ℕ) → F.place_of x l vs 0 ≡ Some i → Listed vs l i
     listed_at x l vs i e = let r = placed_from x l vs 0 i e in let q = r.1 in let s : r.0 ≡ i = omega (arith, q) in subst (Listed vs l) s r.2
 
     record Binds (l : List InnerArm) (b c : F.Bound) : Type 0 where

@@ -55,7 +55,7 @@ use Rattle.clock_premises.proofs.Conditions.{SameNames, expr_good}
 
 -- earlier definitions
 
-scheme_at : (es : List Earlier) (ss : List ClockScheme) → SchemesOf es ss → (j : ℕ) → SameNames (slice_get es j) (nth ss j)
+pub scheme_at : (es : List Earlier) (ss : List ClockScheme) → SchemesOf es ss → (j : ℕ) → SameNames (slice_get es j) (nth ss j)
 scheme_at [] [] h zero = tt
 scheme_at [] [] h (suc j) = tt
 scheme_at (e ∷ es) (s ∷ ss) h zero = h.0
@@ -65,7 +65,7 @@ scheme_at (e ∷ es) [] h j = absurd h
 
 -- no fault
 
-no_fault : (a b c e f : Bool) → (if a then Some Twice else if b then Some Unbound else if c then Some NotAllArms else if e then Some Mixed else if f then Some NotCombinatorial else None) ≡ None → (b ≡ false) × (e ≡ false)
+pub no_fault : (a b c e f : Bool) → (if a then Some Twice else if b then Some Unbound else if c then Some NotAllArms else if e then Some Mixed else if f then Some NotCombinatorial else None) ≡ None → (b ≡ false) × (e ≡ false)
 no_fault true b c e f h = absurd (cc)
 no_fault false true c e f h = absurd (cc)
 no_fault false false true e f h = absurd (cc)
@@ -74,11 +74,11 @@ no_fault false false false false f h = (refl, refl)
 
 -- each item that is there
 
-record Item {A : Type 0} (o : Option A) : Type 0 where
+pub record Item {A : Type 0} (o : Option A) : Type 0 where
   pub item : A
   pub is : o ≡ Some item
 
-item_at : {A : Type 0} (xs : List A) (k : ℕ) → k < length xs → Item (slice_get xs k)
+pub item_at : {A : Type 0} (xs : List A) (k : ℕ) → k < length xs → Item (slice_get xs k)
 item_at [] k l = absurd (omega (arith, l))
 item_at (x ∷ xs) zero l = record { item = x; is = refl }
 item_at (x ∷ xs) (suc k) l = item_at xs k (omega (arith, l))
@@ -87,7 +87,7 @@ item_if : (b : Bool) (m : ℕ) (o : Option ℕ) → (b ≡ false → Item o) →
 item_if true m o h = record { item = m; is = refl }
 item_if false m o h = h refl
 
-clock_found : (x : ℕ) (ns : List Named) (m : ℕ) → list_any (is_clock_of x) ns ≡ true → Item (clock_name x ns m)
+pub clock_found : (x : ℕ) (ns : List Named) (m : ℕ) → list_any (is_clock_of x) ns ≡ true → Item (clock_name x ns m)
 clock_found x [] m h = absurd (cc)
 clock_found x (n ∷ ns) m h = item_if (is_clock_of x n) m (clock_name x ns (suc m)) (λ e. clock_found x ns (suc m) (sym (ap (λ b. b || list_any (is_clock_of x) ns) e) ∙ h))
 
@@ -120,7 +120,7 @@ after_case (x ∷ xs) (suc k) = elim (after_case xs k) [
   | inr a ↦ let h = a.at' in inr (record { left = a.left; is = a.is; at' = omega (arith, h) })
 ]
 
-param_found : (ps : List Pat) (k i : ℕ) → k < length (P.joined (map P.names_of ps)) → Item (param_at k ps i)
+pub param_found : (ps : List Pat) (k i : ℕ) → k < length (P.joined (map P.names_of ps)) → Item (param_at k ps i)
 param_found [] k i l = absurd (omega (arith, l))
 param_found (p ∷ ps) k i l = elim (after_case (FP.names_of p) k) [
   | inl e ↦ record { item = i; is = ap (param_here i (λ r. param_at r ps (suc i))) e }
@@ -138,7 +138,7 @@ abbrev is_case : Binder → Bool
 is_case (binder.Case t k) = true
 is_case _ = false
 
-no_case : (o p q : Option ℕ) → is_case (var_binder o (param_binder p (def_binder q))) ≡ false
+pub no_case : (o p q : Option ℕ) → is_case (var_binder o (param_binder p (def_binder q))) ≡ false
 no_case (Some k) p q = refl
 no_case None (Some k) q = refl
 no_case None None (Some k) = refl
@@ -148,7 +148,7 @@ long_marks : (asks : List Asked) (ps : List Pat) (k : ℕ) → length (F.marks_f
 long_marks asks [] k = refl
 long_marks asks (p ∷ ps) k = ap suc (long_marks asks ps (k + length (P.names_of p)))
 
-or_false : (a : Bool) → a || false ≡ false → a ≡ false
+pub or_false : (a : Bool) → a || false ≡ false → a ≡ false
 or_false true h = h
 or_false false h = refl
 
@@ -185,7 +185,7 @@ module _ (d : Judged Plain) (schemes : List ClockScheme) (cases : ℕ → Option
   faultless : (F.unbound d ≡ false) × (F.mixed d ≡ false)
   faultless = no_fault (F.twice d) (F.unbound d) (F.not_all_arms d) (F.mixed d) (F.not_combinatorial d) sound
 
-  none_unbound : any_claim (F.unbound_claim d) (F.asks d) ≡ false
+  pub none_unbound : any_claim (F.unbound_claim d) (F.asks d) ≡ false
   none_unbound =
       let a = list_any (λ (s : ℕ × Place). not (F.equation_of d s.1 s.0)) (F.contents d).starts in
       let b = list_any (λ (as' : List (Option ℕ)). list_any (λ c. not (F.is_there d.known c)) (F.named_arms d as')) (F.contents d).arms in
@@ -193,7 +193,7 @@ module _ (d : Judged Plain) (schemes : List ClockScheme) (cases : ℕ → Option
       let q = any_claim (F.unbound_claim d) (F.asks d) in
       (or_parts c q (or_parts b (c || q) (or_parts a (b || (c || q)) faultless.0).1).1).1
 
-  none_mixed : any_claim (F.mixed_claim d) (F.asks d) ≡ false
+  pub none_mixed : any_claim (F.mixed_claim d) (F.asks d) ≡ false
   none_mixed =
       let a = list_any (F.mixed_site d) (F.contents d).sites in
       let b = list_any (F.mixed_start d) (F.contents d).starts in
@@ -204,7 +204,7 @@ module _ (d : Judged Plain) (schemes : List ClockScheme) (cases : ℕ → Option
   both_false true b x y = x
   both_false false b x y = y
 
-  any_both : (p : Place) (cs : List Claim) → list_any (F.unbound_claim d p) cs ≡ false → list_any (F.mixed_claim d p) cs ≡ false → list_any (bad p) cs ≡ false
+  pub any_both : (p : Place) (cs : List Claim) → list_any (F.unbound_claim d p) cs ≡ false → list_any (F.mixed_claim d p) cs ≡ false → list_any (bad p) cs ≡ false
   any_both p [] x y = refl
   any_both p (c ∷ cs) x y =
       let x' = or_parts (F.unbound_claim d p c) (list_any (F.unbound_claim d p) cs) x in
