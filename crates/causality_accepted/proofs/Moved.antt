@@ -287,7 +287,7 @@ module _ (schemes : List ClockScheme) (cases : ℕ → Option ℕ) (params : Lis
       var_at : (x : ℕ) → at C.vars x ≡ put (list_at V x) (at cs.vars x)
       var_at x = let z : 0 + x ≡ x = omega arith in at_put (list_at V) 0 cs.vars x ∙ ap (λ j. put (list_at V j) (at cs.vars x)) z
 
-      block_at : (j : ℕ) → at C.blocks j ≡ put (place_at j) (at cs.blocks j)
+      pub block_at : (j : ℕ) → at C.blocks j ≡ put (place_at j) (at cs.blocks j)
       block_at j = let z : 0 + j ≡ j = omega arith in at_put place_at 0 cs.blocks j ∙ ap (λ i. put (place_at i) (at cs.blocks j)) z
 
       block_put : (m : ℕ) (l : List InnerArm) → spot m ≡ Some l → B' m ≡ put l (B m)

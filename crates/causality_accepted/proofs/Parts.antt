@@ -131,3 +131,61 @@ module _ (function : Note → Bool) (P : ClockTerm → Type 0) where
 
   pub layers_good : (e : Expr Note) → Each P (clocks_in e) → Each LayerGood (layers Note function e)
   layers_good e h = (related clocks_form clocks_expr fs es R R' layer (λ n q h. let x = q.2 h.1 in record { all = (record { own = h.0; parts = x.parts }, x.all); own = h.0 }) e h).all
+
+  -- ---- and of all clocks noted in it where it holds of those of its layers
+
+  abbrev Own : Layer Note → Type 0
+  Own l = P l.note.ck
+
+  abbrev B : Cs → In' → Type 0
+  B cs i = Each Own i.all → Each P cs
+
+  abbrev B' : Cs → Lay → Type 0
+  B' cs l = Each Own l.all → Each P cs
+
+  abbrev K : Type 0
+  K = (a : Cs) × (b : In') × B a b
+
+  abbrev K' : Type 0
+  K' = (a : Cs) × (b : Lay) × B' a b
+
+  abbrev clocks_of : List K' → List Cs
+  clocks_of = map {A = K'} {B = Cs} (λ q. q.0)
+
+  abbrev laid_of : List K' → List Lay
+  laid_of = map {A = K'} {B = Lay} (λ q. q.1)
+
+  back : (qs : List K') → Each Own (laid_layers Note function (laid_of qs)) → Each P (joined (clocks_of qs))
+  back [] h = tt
+  back (q ∷ qs) h = all_both P q.0 (joined (clocks_of qs)) (q.2 (all_left Own q.1.all (laid_layers Note function (laid_of qs)) h)) (back qs (all_right Own q.1.all (laid_layers Note function (laid_of qs)) h))
+
+  back_branches : (cs : List (Case × K')) → Each Own (laid_layers Note function (choice_parts (in_choices {X = K'} {Y = Lay} (λ q. q.1) cs))) → Each P (joined (choice_parts (in_choices {X = K'} {Y = Cs} (λ q. q.0) cs)))
+  back_branches [] h = tt
+  back_branches (c ∷ cs) h =
+      let rest = laid_layers Note function (choice_parts (in_choices {X = K'} {Y = Lay} (λ q. q.1) cs)) in
+      all_both P c.1.0 (joined (choice_parts (in_choices {X = K'} {Y = Cs} (λ q. q.0) cs))) (c.1.2 (all_left Own c.1.1.all rest h)) (back_branches cs (all_right Own c.1.1.all rest h))
+
+  back_args : (qs os : List K') → Each Own (laid_layers Note function (laid_of qs ++ laid_of os)) → Each P (joined (clocks_of qs ++ clocks_of os))
+  back_args [] os h = back os h
+  back_args (q ∷ qs) os h =
+      let rest = laid_layers Note function (laid_of qs ++ laid_of os) in
+      all_both P q.0 (joined (clocks_of qs ++ clocks_of os)) (q.2 (all_left Own q.1.all rest h)) (back_args qs os (all_right Own q.1.all rest h))
+
+  back_layer : (y : Form-F Note K K') → B (clocks_form (Related.lefts clocks_form clocks_expr fs es B B' y)) (fs (Related.rights clocks_form clocks_expr fs es B B' y))
+  back_layer (Form-F.Leaf l) h = tt
+  back_layer (Form-F.Case x) h = tt
+  back_layer (Form-F.Var x) h = tt
+  back_layer (Form-F.Last x) h = tt
+  back_layer (Form-F.Asked x) h = tt
+  back_layer (Form-F.Op o qs) h = back qs h
+  back_layer (Form-F.Tuple qs) h = back qs h
+  back_layer (Form-F.Pre q) h = back (q ∷ []) h
+  back_layer (Form-F.Fby q r) h = back (q ∷ r ∷ []) h
+  back_layer (Form-F.Init q r) h = back (q ∷ r ∷ []) h
+  back_layer (Form-F.When q x k) h = back (q ∷ []) h
+  back_layer (Form-F.Merge x cs) h = back_branches cs h
+  back_layer (Form-F.Call run x qs None) h = back_args qs [] h
+  back_layer (Form-F.Call run x qs (Some q)) h = back_args qs (q ∷ []) h
+
+  pub clocks_all : (e : Expr Note) → Each Own (layers Note function e) → Each P (clocks_in e)
+  clocks_all e h = related clocks_form clocks_expr fs es B B' back_layer (λ n q h. (h.0, q.2 h.1)) e h

@@ -1,6 +1,6 @@
 -- What stands where in a body: each arm is of a block that stands just outside, an equation stands inside the list that binds
 -- its names, and whole expressions stand where what names them does.
-use Rattle.std.specs.Prelude.{◌≡◌, refl, ◌⊎◌, ℕ, zero, suc, ◌+◌, ◌-◌, ◌==◌, ◌&&◌, nat_lt, Bool, true, false, List, [], ◌∷◌, ◌++◌, map, length, slice_set, Option, Some, None, option_map, unwrap_or, if◌then◌else◌}
+use Rattle.std.specs.Prelude.{◌≡◌, refl, ◌⊎◌, ℕ, zero, suc, ◌+◌, ◌-◌, ◌==◌, ◌<◌, ◌&&◌, nat_lt, Bool, true, false, List, [], ◌∷◌, ◌++◌, map, length, slice_set, Option, Some, None, option_map, unwrap_or, if◌then◌else◌}
 use Rattle.std.proofs.Common.{ap, ap₂, sym, ◌∙◌, subst, inl, inr, arith, append_assoc}
 use Rattle.std.proofs.lemmas.Bool.{and_parts, eqb-true}
 use Rattle.std.proofs.lemmas.Bool.Decides.{nat_tests}
@@ -198,7 +198,7 @@ module _ (first : ℕ) (E : List (Whole Note)) (V : List Variable) (S : List (Op
   NamedPlaced i (named.Match k all p) = Homed (arms p) × StandsAt k (arms p)
   NamedPlaced i (named.Present xs p) = Homed (arms p)
   NamedPlaced i (named.Active all p) = Homed (arms p) × (spot_of (suc (first + i)) ≡ Some (arms p)) × StatesAt (suc (first + i)) 0 (arms p) all
-  NamedPlaced i (named.Tested all p) = Homed (arms p) × (spot_of (first + i - 1) ≡ Some (arms p)) × StatesAt (first + i - 1) 0 (arms p) all
+  NamedPlaced i (named.Tested all p) = Homed (arms p) × (spot_of (first + i - 1) ≡ Some (arms p)) × StatesAt (first + i - 1) 0 (arms p) all × (0 < i)
 
   abbrev pub NamesPlaced : ℕ → List Named → Type 0
   NamesPlaced i [] = Unit {0}
@@ -625,9 +625,10 @@ module _ (first : ℕ) (E : List (Whole Note)) (V : List Variable) (S : List (Op
               let i : ℕ = length g.names in
               let up : m + 1 ≡ suc (first + i) = omega arith in
               let down : m ≡ first + suc i - 1 = omega arith in
+              let some : 0 < suc i = omega arith in
               let pair : (s s' : F.Guards Note) (ns : List Named) → StatesAt (m + 1) 0 (arms p) s → StatesAt m 0 (arms p) s' → NamesPlaced (suc (suc i)) ns → NamesPlaced i (named.Active s p ∷ named.Tested s' p ∷ ns) = (λ s s' ns x y q. (
                 (a.homed, subst (λ z. spot_of z ≡ Some (arms p)) up b2, subst (λ z. StatesAt z 0 (arms p) s) up x),
-                ((a.homed, subst (λ z. spot_of z ≡ Some (arms p)) down b1, subst (λ z. StatesAt z 0 (arms p) s') down y), q),
+                ((a.homed, subst (λ z. spot_of z ≡ Some (arms p)) down b1, subst (λ z. StatesAt z 0 (arms p) s') down y, some), q),
               )) in
               let zero_on : i ≡ 0 + i = omega arith in
               let h1 : Placed g1 = record {

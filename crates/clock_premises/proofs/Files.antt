@@ -32,7 +32,7 @@ use Rattle.scope_rules.specs.declared.claims.Earlier.{Earlier}
 use Rattle.scope_rules.specs.Faults as F
 use Rattle.scope_rules.specs.Faults.{Fault}
 use Rattle.scope_rules.specs.File.{known_after, first_fault, or_else, with_line}
-use Rattle.scope_rules.specs.FromScope.{resolved_defs, resolved_body, no_uses}
+use Rattle.scope_rules.specs.Resolved.{resolved_defs, resolved_body, no_uses}
 use Rattle.clock_rules.specs.declared.scheme.ClockScheme.{ClockScheme}
 use Rattle.clock_rules.specs.Files.{clock_marks, scheme}
 use Rattle.clock_rules.specs.Fresh.{erase, facts_of}

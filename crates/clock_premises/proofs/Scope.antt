@@ -134,7 +134,7 @@ param_found (p ∷ ps) k i l = elim (after_case (FP.names_of p) k) [
 
 -- a name is no constructor
 
-abbrev is_case : Binder → Bool
+abbrev pub is_case : Binder → Bool
 is_case (binder.Case t k) = true
 is_case _ = false
 
