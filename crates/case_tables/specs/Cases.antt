@@ -4,6 +4,7 @@ use Rattle.ls_ast.specs.declared.tree.DefOf.{DefOf}
 use Rattle.ls_ast.specs.declared.tree.DefOf.TheVariants as item
 use Rattle.ls_base.specs.declared.Name.{Name}
 use Rattle.term_unify.specs.Terms.{first}
+use Rattle.case_tables.specs.declared.cases.Cases.{Cases}
 
 abbrev pub places_from : List Name → ℕ → List (ℕ × ℕ)
 places_from [] k = []
@@ -23,3 +24,7 @@ abbrev pub place_at : List (ℕ × ℕ) → ℕ → Option ℕ
 place_at list zero = Some 0
 place_at list (suc zero) = Some 1
 place_at list (suc (suc x)) = first list (suc (suc x))
+
+-- where a constructor stands by the table
+abbrev pub place : Cases → ℕ → Option ℕ
+place it x = place_at it.places.list x

@@ -39,7 +39,7 @@ fn add_definition<N>(def: &DefOf<N>, list: &mut Subst<u32>) -> Result<(), NoMemo
 impl Cases {
     /// The constructors of these definitions. It takes the time of their number, and a logarithm.
     pub fn new<N>(alloc: Global, defs: &[DefOf<N>]) -> Result<Cases, NoMemory>
-        ensures { IfOk result (λ r. spec.place_at r.places.list ≡ case_place defs.now) }
+        ensures { IfOk result (λ r. spec.place r ≡ case_place defs.now) }
     {
         let mut places = Subst::new(alloc);
         for def in defs {
@@ -50,9 +50,9 @@ impl Cases {
 }
 
 impl CasePlaces for Cases {
-    ghost use Rattle.case_tables.specs.Cases.{place_at};
+    ghost use Rattle.case_tables.specs.Cases as spec;
 
-    ghost place = { λ it x. place_at it.places.list x };
+    ghost place = { λ it x. spec.place it x };
 
     fn place(&self, name: u32) -> Option<u32> {
         match name {
