@@ -1,0 +1,10 @@
+use Rattle.std.proofs.Common.{drop, map}
+use Rattle.clock_text.specs.Texts as spec
+use Rattle.clock_text.proofs.Writing.{Halfway}
+use Rattle.clock_text.proofs.texts.+print.Given as goal
+
+abbrev pub invariant-print_all-loop-t : goal.invariant-print_all-loop-t
+invariant-print_all-loop-t g l =
+    Halfway l.fn.ok l.so_far (g.K.Sink.written l.initial.out) (g.K.Sink.written l.out) (g.K.Sink.count l.initial.out) (g.K.Sink.count l.out)
+    (spec.arrows (map (spec.shown l.by.names.now l.by.enums.now l.by.params.now l.by.clock_names.now) (drop l.t-index l.all)))
+    (spec.arrows (map (spec.shown l.by.names.now l.by.enums.now l.by.params.now l.by.clock_names.now) l.all))
