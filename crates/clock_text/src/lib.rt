@@ -1,6 +1,7 @@
 //! The clocks of signatures as text.
 #![tactic(auto)]
 
-mod texts;
+mod conditions;
+mod lines;
 
-pub use texts::print_clock;
+pub use lines::print_clock;

@@ -1,11 +1,11 @@
 -- Texts written one after the other.
-use Rattle.std.specs.Prelude.{◌≡◌, refl, ℕ, ◌+◌, ◌<◌, ◌≤◌, Bool, true, false, List, [], ◌∷◌, ◌++◌, length, Option, Some, None}
+use Rattle.std.specs.Prelude.{◌≡◌, refl, ℕ, ◌+◌, ◌≤◌, Bool, true, false, List, [], ◌++◌, length, Option, Some, None}
 use Rattle.std.specs.Option.{option_map}
 use Rattle.std.proofs.Common.{ap, sym, ◌∙◌, subst, arith, take, inl, inr, append_assoc, length-append}
 use Rattle.std.proofs.lemmas.List.{append-nil, take-append-le}
 use Rattle.std.proofs.Math.Seq.{take-append-add}
 use Rattle.ls_base.specs.Outside.{Rose, WritesFront}
-use Rattle.clock_text.specs.Writes.{Prints}
+use Rattle.text_write.specs.Writes.{Prints}
 
 writes_twice : (old mid new : Option (List ℕ)) (xs ys : List ℕ) → mid ≡ option_map (λ t. t ++ xs) old → new ≡ option_map (λ t. t ++ ys) mid
     → new ≡ option_map (λ t. t ++ (xs ++ ys)) old
@@ -89,3 +89,9 @@ halfway_more ok so_far next old now new a c e xs left left' whole p is h = recor
   prints = prints_more ok so_far next old now new a c e h.done xs h.prints p;
   split = append_assoc h.done xs left' ∙ ap (λ z. h.done ++ z) (sym is) ∙ h.split;
 }
+
+-- two more texts
+pub halfway_twice : (ok so_far mid_ok next : Bool) (old now mid new : Option (List ℕ)) (a c e f : ℕ) (xs ys left left' whole : List ℕ)
+    → Prints so_far mid_ok now mid c e xs → Prints mid_ok next mid new e f ys → left ≡ (xs ++ ys) ++ left' → Halfway ok so_far old now a c left whole → Halfway ok next old new a f left' whole
+halfway_twice ok so_far mid_ok next old now mid new a c e f xs ys left left' whole p q is h =
+    halfway_more ok so_far next old now new a c f (xs ++ ys) left left' whole (prints_more so_far mid_ok next now mid new c e f xs ys p q) is h
