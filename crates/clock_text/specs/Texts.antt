@@ -1,5 +1,5 @@
 -- The text of a definition's clock.
-use Rattle.std.specs.Prelude.{ℕ, suc, ◌==◌, Bool, true, false, List, [], ◌∷◌, ◌++◌, slice_get, Option, Some, None, if◌then◌else◌, codes, decimal}
+use Rattle.std.specs.Prelude.{ℕ, ◌+◌, ◌==◌, Bool, true, false, List, [], ◌∷◌, ◌++◌, slice_get, Option, Some, None, if◌then◌else◌, codes, decimal}
 use Rattle.std.specs.Option.{is_some}
 use Rattle.clock_text.specs.declared.conditions.Spelling.{Spelling}
 use Rattle.ls_ast.specs.declared.tree.Mark.{Mark}
@@ -29,7 +29,7 @@ numbered k = 99 ∷ decimal k
 -- the place of a number in a list, of which so many come before, and the end where it is not there
 abbrev pub place_of : ℕ → List ℕ → ℕ → ℕ
 place_of m [] k = k
-place_of m (x ∷ xs) k = if x == m then k else place_of m xs (suc k)
+place_of m (x ∷ xs) k = if x == m then k else place_of m xs (k + 1)
 
 -- the clock name of a parameter: clock names are numbered in the order of the parameters
 abbrev pub clock_name : Spells → ℕ → List ℕ
@@ -95,7 +95,7 @@ param_text s true i t = (((codes "(" ++ clock_name s i) ++ codes " : ") ++ shown
 
 abbrev pub params_text : Spells → List Mark → ℕ → List ClockTerm → List ℕ
 params_text s marks i [] = []
-params_text s marks i (t ∷ ts) = param_text s (is_clock (slice_get marks i)) i t ++ params_text s marks (suc i) ts
+params_text s marks i (t ∷ ts) = param_text s (is_clock (slice_get marks i)) i t ++ params_text s marks (i + 1) ts
 
 abbrev pub line_by : Spells → Sig → List ℕ
 line_by s sig =

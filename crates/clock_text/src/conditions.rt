@@ -15,7 +15,7 @@ use text_write::spelled;
 pub struct Spelling<'a> {
     pub names: &'a Names,
     pub constructors: &'a [List<Name>],
-    pub params: &'a [TypeTerm],
+    pub params: &'a List<TypeTerm>,
     pub clock_names: &'a List<u32>,
 }
 

@@ -18,11 +18,12 @@ fn print_on<K: Sink>(ok: bool, m: u32, k: u32, by: &Spelling, out: &mut K) -> bo
     ensures { Prints ok result (K.written out.old) (K.written out.new) (K.count out.old) (K.count out.new) (spec.on_text (spec.spelling by.now) m k) }
 {
     let of = enum_at(m, by);
+    let is_enum = of.is_some();
     let begun = put(ok, b" on ", out);
     let cased = put(begun, before_name(of, k, by), out);
-    let opened = put(cased, opening(of.is_some()), out);
+    let opened = put(cased, opening(is_enum), out);
     let named = put(opened, clock_name(m, by).as_slice(), out);
-    put(named, closing(of.is_some()), out)
+    put(named, closing(is_enum), out)
 }
 
 /// Writes a clock.
@@ -70,7 +71,14 @@ fn is_clock(marks: &[Mark], i: u32) -> bool
 }
 
 /// Writes the clock of a parameter, with its clock name before it if it is one.
-fn print_param<K: Sink>(ok: bool, named: bool, i: u32, t: &ClockTerm, by: &Spelling, out: &mut K) -> bool
+fn print_param<K: Sink>(
+    ok: bool,
+    named: bool,
+    i: u32,
+    t: &ClockTerm,
+    by: &Spelling,
+    out: &mut K,
+) -> bool
     ensures { Prints ok result (K.written out.old) (K.written out.new) (K.count out.old) (K.count out.new) (spec.param_text (spec.spelling by.now) named i t.now) }
 {
     if !named {
@@ -85,7 +93,13 @@ fn print_param<K: Sink>(ok: bool, named: bool, i: u32, t: &ClockTerm, by: &Spell
 }
 
 /// Writes the clocks of parameters.
-fn print_params<K: Sink>(ok: bool, marks: &[Mark], all: &List<ClockTerm>, by: &Spelling, out: &mut K) -> bool
+fn print_params<K: Sink>(
+    ok: bool,
+    marks: &[Mark],
+    all: &List<ClockTerm>,
+    by: &Spelling,
+    out: &mut K,
+) -> bool
     ensures { Prints ok result (K.written out.old) (K.written out.new) (K.count out.old) (K.count out.new) (spec.params_text (spec.spelling by.now) marks.now 0 all.now) }
 {
     let mut so_far = ok;
@@ -126,7 +140,7 @@ pub fn print_clock<K: Sink>(
     let by = Spelling {
         names,
         constructors,
-        params: sig.params.as_slice(),
+        params: &sig.params,
         clock_names: &sig.clock_names,
     };
     if print_signature(sig, &by, out) {
