@@ -6,3 +6,5 @@ pub mod Moved
 pub mod Used
 pub mod Homes
 pub mod Near
+pub mod Closed
+pub mod Accepted

@@ -176,11 +176,51 @@ module _ (schemes : List ClockScheme) (cases : ℕ → Option ℕ) (params : Lis
       by_case true f = absurd (cc)
       by_case false f = ap (λ o. unwrap_or o []) f
 
-  whole_note : (k : ℕ) (x : Whole Note) → nth E k ≡ Some x → nth d.wholes k ≡ Some x.expr.note
+  pub whole_note : (k : ℕ) (x : Whole Note) → nth E k ≡ Some x → nth d.wholes k ≡ Some x.expr.note
   whole_note k x e = nth_map (λ (y : Whole Note). y.expr.note) E k ∙ ap (option_map (λ (y : Whole Note). y.expr.note)) e
 
   listed_is : (l : List InnerArm) (x : ℕ) → Pl.Listed V l x → list_at V x ≡ l
   listed_is l x h = ap list_of h.is ∙ h.list
+
+  -- the signal that is seen at a place is bound in a list around it
+
+  signal_if : (c : Bool) (k i : ℕ) (v : Variable) (vs : List Variable) (p : List InnerArm) → (c ≡ true → starts_with p v.list ≡ true) → (signal_rest : Option ℕ) → (signal_rest ≡ Some i → (j : ℕ) × (i ≡ suc k + j) × (starts_with p (list_at vs j) ≡ true))
+      → (if c then Some k else signal_rest) ≡ Some i → (j : ℕ) × (i ≡ k + j) × (starts_with p (list_at (v ∷ vs) j) ≡ true)
+  signal_if true k i v vs p f r h e = let s : k ≡ i = ap (λ z. unwrap_or z i) e in (0, omega (arith, s), f refl)
+  signal_if false k i v vs p f r h e = let q = h e in let z = q.1 in (suc q.0, omega (arith, z), q.2)
+
+  and_right : (a c : Bool) → (a && c) ≡ true → c ≡ true
+  and_right true c e = e
+  and_right false c e = absurd (cc)
+
+  signal_from : (x : ℕ) (p : List InnerArm) (vs : List Variable) (k i : ℕ) → signal_in x p vs k ≡ Some i → (j : ℕ) × (i ≡ k + j) × (starts_with p (list_at vs j) ≡ true)
+  signal_from x p [] k i e = absurd (cc)
+  signal_from x p (v ∷ vs) k i e = signal_if (v.name == x && starts_with p v.list) k i v vs p (and_right (v.name == x) (starts_with p v.list)) (signal_in x p vs (suc k)) (signal_from x p vs (suc k) i) e
+
+  pub signal_around : (x : ℕ) (p : List InnerArm) (i : ℕ) → signal_in x p V 0 ≡ Some i → starts_with p (list_at V i) ≡ true
+  signal_around x p i e = let q = signal_from x p V 0 i e in let z = q.1 in let s : q.0 ≡ i = omega (arith, z) in subst (λ j. starts_with p (list_at V j) ≡ true) s q.2
+
+  -- the clock of a variable is seen at an equation that binds it
+
+  module _ (cs : Clocks) (o : R.Obeys schemes cases d cs) where
+    site_equal : (s : Site) (all : List Site) → In s all → AreEqual (R.sites_pairs schemes cases d cs all) → AreEqual (R.vars_pairs schemes cases d cs s s.vars)
+    site_equal s [] i e = absurd (Oc.none_in i)
+    site_equal s (t ∷ all) i e = elim (Oc.in_cons s t all i) [
+      | inl f ↦ subst (λ (z : Site). AreEqual (R.vars_pairs schemes cases d cs z z.vars)) f (all_left R.IsEqual (R.site_pairs schemes cases d cs t) (R.sites_pairs schemes cases d cs all) e)
+      | inr j ↦ site_equal s all j (all_right R.IsEqual (R.site_pairs schemes cases d cs t) (R.sites_pairs schemes cases d cs all) e)
+    ]
+
+    var_equal : (s : Site) (x : ℕ) (xs : List ℕ) → In x xs → AreEqual (R.vars_pairs schemes cases d cs s xs) → AreEqual (R.right_pairs schemes cases d cs x s s.right)
+    var_equal s x [] i e = absurd (Oc.none_in i)
+    var_equal s x (y ∷ xs) i e = elim (Oc.in_cons x y xs i) [
+      | inl f ↦ subst (λ z. AreEqual (R.right_pairs schemes cases d cs z s s.right)) f (all_left R.IsEqual (R.right_pairs schemes cases d cs y s s.right) (R.vars_pairs schemes cases d cs s xs) e)
+      | inr j ↦ var_equal s x xs j (all_right R.IsEqual (R.right_pairs schemes cases d cs y s s.right) (R.vars_pairs schemes cases d cs s xs) e)
+    ]
+
+    pub right_equal : (s : Site) (x : ℕ) → In s g.sites → In x s.vars → AreEqual (R.right_pairs schemes cases d cs x s s.right)
+    right_equal s x i j =
+        var_equal s x s.vars j (site_equal s g.sites i
+        (all_left R.IsEqual (R.sites_pairs schemes cases d cs d.sites) (R.starts_pairs schemes cases d cs d.starts ++ R.blocks_pairs schemes cases d cs first d.names) o.equal))
 
   module _ (w : ℕ) where
     abbrev pub home : List InnerArm
@@ -252,7 +292,7 @@ module _ (schemes : List ClockScheme) (cases : ℕ → Option ℕ) (params : Lis
     abbrev Deep : List InnerArm → ClockTerm → Type 0
     Deep l t = deep_at l t ≡ true
 
-    abbrev NodeDeep : Layer Note × Place → Type 0
+    abbrev pub NodeDeep : Layer Note × Place → Type 0
     NodeDeep n = Homed (arms n.1) × Pa.LayerGood function (Deep (arms n.1)) n.0
 
     layers_deep : (p : Place) (ls : List (Layer Note)) → Homed (arms p) → Each (Pa.LayerGood function (Deep (arms p))) ls → Each NodeDeep (placed Note p ls)
@@ -268,11 +308,21 @@ module _ (schemes : List ClockScheme) (cases : ℕ → Option ℕ) (params : Lis
         (layers_deep x.place (layers Note function x.expr) h.0 (Pa.layers_good function (Deep (arms x.place)) x.expr (clocks_deep x (f x (here xs)))))
         (nodes_deep xs (λ y i. f y (later x xs i)) h.1)
 
-    all_deep : Each NodeDeep d.nodes
+    pub all_deep : Each NodeDeep d.nodes
     all_deep = nodes_deep E (λ x i. i) pl.exprs
 
     whole_deep : (k : ℕ) (x : Whole Note) → nth E k ≡ Some x → Deep (arms x.place) x.expr.note.ck
     whole_deep k x e = in_each (Deep (arms x.place)) (clocks_in x.expr) x.expr.note.ck (clocks_deep x (nth_in E k x e)) (Pa.clock_here x.expr)
+
+    -- a clock that is seen in arms as one that is noted there
+    pub seen_deep : (cs : Clocks) (t : ClockTerm) (k : ℕ) (l p : List InnerArm) → Homed (l ++ p) → Stands k (l ++ p)
+        → AreEqual (R.whole_pairs schemes cases d cs k (λ n. R.seen schemes cases d cs t p n.ck)) → deep_at l t ≡ true
+    seen_deep cs t k l p h st a =
+        let u : ClockTerm = st.whole.expr.note.ck in
+        let e = subst (λ z. AreEqual (opt_pairs z (λ n. R.seen schemes cases d cs t p n.ck))) (whole_note k st.whole st.is) a in
+        let f = (all_right R.IsEqual (R.borders schemes cases d cs t p) ((sampled t p, u) ∷ []) e).0 in
+        ap (deep home) (sym (Oc.occ_sampled w first E V S t l p h) ∙ ap (λ z. occurrences w z (l ++ p)) f)
+        ∙ subst (λ z. deep_at z u ≡ true) st.place (whole_deep k st.whole st.is)
 
     module _ (used : Each (NodeUsed schemes V) d.nodes) (cs : Clocks) (o : R.Obeys schemes cases d cs) (free : Each (λ (n : Note). mentions w n.ck ≡ false) notes) where
       abbrev pub C : Clocks
@@ -541,27 +591,6 @@ module _ (schemes : List ClockScheme) (cases : ℕ → Option ℕ) (params : Lis
       sites_moved (s ∷ all) q e = both_equal (R.site_pairs schemes cases d cs s) (R.sites_pairs schemes cases d cs all) (R.site_pairs schemes cases d C s) (R.sites_pairs schemes cases d C all) e
           (vars_moved s q.0 s.vars q.0.vars) (sites_moved all q.1)
 
-      -- the clock of a variable is seen at an equation that binds it
-
-      site_equal : (s : Site) (all : List Site) → In s all → AreEqual (R.sites_pairs schemes cases d cs all) → AreEqual (R.vars_pairs schemes cases d cs s s.vars)
-      site_equal s [] i e = absurd (Oc.none_in i)
-      site_equal s (t ∷ all) i e = elim (Oc.in_cons s t all i) [
-        | inl f ↦ subst (λ (z : Site). AreEqual (R.vars_pairs schemes cases d cs z z.vars)) f (all_left R.IsEqual (R.site_pairs schemes cases d cs t) (R.sites_pairs schemes cases d cs all) e)
-        | inr j ↦ site_equal s all j (all_right R.IsEqual (R.site_pairs schemes cases d cs t) (R.sites_pairs schemes cases d cs all) e)
-      ]
-
-      var_equal : (s : Site) (x : ℕ) (xs : List ℕ) → In x xs → AreEqual (R.vars_pairs schemes cases d cs s xs) → AreEqual (R.right_pairs schemes cases d cs x s s.right)
-      var_equal s x [] i e = absurd (Oc.none_in i)
-      var_equal s x (y ∷ xs) i e = elim (Oc.in_cons x y xs i) [
-        | inl f ↦ subst (λ z. AreEqual (R.right_pairs schemes cases d cs z s s.right)) f (all_left R.IsEqual (R.right_pairs schemes cases d cs y s s.right) (R.vars_pairs schemes cases d cs s xs) e)
-        | inr j ↦ var_equal s x xs j (all_right R.IsEqual (R.right_pairs schemes cases d cs y s s.right) (R.vars_pairs schemes cases d cs s xs) e)
-      ]
-
-      pub right_equal : (s : Site) (x : ℕ) → In s g.sites → In x s.vars → AreEqual (R.right_pairs schemes cases d cs x s s.right)
-      right_equal s x i j =
-          var_equal s x s.vars j (site_equal s g.sites i
-          (all_left R.IsEqual (R.sites_pairs schemes cases d cs d.sites) (R.starts_pairs schemes cases d cs d.starts ++ R.blocks_pairs schemes cases d cs first d.names) o.equal))
-
       -- bound by the pattern of a test
       record Tested (x : ℕ) (l : List InnerArm) : Type 0 where
         pub around : List InnerArm
@@ -569,20 +598,10 @@ module _ (schemes : List ClockScheme) (cases : ℕ → Option ℕ) (params : Lis
         pub is : l ≡ around ++ arm ∷ []
         pub clock : at cs.vars x ≡ on (B arm.0) arm.0 arm.1
 
-      -- a clock that is seen in arms as one that is noted there
-      pub seen_deep : (t : ClockTerm) (k : ℕ) (l p : List InnerArm) → Homed (l ++ p) → Stands k (l ++ p)
-          → AreEqual (R.whole_pairs schemes cases d cs k (λ n. R.seen schemes cases d cs t p n.ck)) → deep_at l t ≡ true
-      seen_deep t k l p h st a =
-          let u : ClockTerm = st.whole.expr.note.ck in
-          let e = subst (λ z. AreEqual (opt_pairs z (λ n. R.seen schemes cases d cs t p n.ck))) (whole_note k st.whole st.is) a in
-          let f = (all_right R.IsEqual (R.borders schemes cases d cs t p) ((sampled t p, u) ∷ []) e).0 in
-          ap (deep home) (sym (Oc.occ_sampled w first E V S t l p h) ∙ ap (λ z. occurrences w z (l ++ p)) f)
-          ∙ subst (λ z. deep_at z u ≡ true) st.place (whole_deep k st.whole st.is)
-
       bound_case : (x : ℕ) (s : Site) (r : Right) (l : List InnerArm) → arms s.place ≡ l ++ s.inner → Homed (arms s.place) → Pl.RightPlaced first E V S (arms s.place) s.inner r
           → AreEqual (R.right_pairs schemes cases d cs x s r) → (deep_at l (at cs.vars x) ≡ true) ⊎ Tested x l
-      bound_case x s (rhs.Part q k) l f h st a = inl (seen_deep (at cs.vars x) k l s.inner (subst Homed f h) (subst (Stands k) f st) a)
-      bound_case x s (rhs.Whole k) l f h st a = inl (seen_deep (at cs.vars x) k l s.inner (subst Homed f h) (subst (Stands k) f st) a)
+      bound_case x s (rhs.Part q k) l f h st a = inl (seen_deep cs (at cs.vars x) k l s.inner (subst Homed f h) (subst (Stands k) f st) a)
+      bound_case x s (rhs.Whole k) l f h st a = inl (seen_deep cs (at cs.vars x) k l s.inner (subst Homed f h) (subst (Stands k) f st) a)
       bound_case x s (rhs.Pattern y q) l f h st a =
           let last = st.1 in
           let in' : innermost (arms s.place) ≡ Some last.arm = ap innermost last.is ∙ innermost_is last.around last.arm in
@@ -594,7 +613,7 @@ module _ (schemes : List ClockScheme) (cases : ℕ → Option ℕ) (params : Lis
           let s = pl.sited x h.variable h.is in
           let q = in_each (Pl.SitePlaced first E V S) g.sites s.site pl.sites s.among in
           let same : q.list ≡ l = sym (listed_is q.list x (in_each (Pl.Listed V q.list) s.site.vars x q.vars s.binds)) ∙ listed_is l x h in
-          bound_case x s.site s.site.right l (q.place ∙ ap (λ z. z ++ s.site.inner) same) q.homed q.right (right_equal s.site x s.among s.binds)
+          bound_case x s.site s.site.right l (q.place ∙ ap (λ z. z ++ s.site.inner) same) q.homed q.right (right_equal cs o s.site x s.among s.binds)
 
       -- ---- initial equations
 
@@ -633,22 +652,6 @@ module _ (schemes : List ClockScheme) (cases : ℕ → Option ℕ) (params : Lis
           (begin_moved s (F.place_of s.name s.list V 0) refl q.0) (starts_moved all q.1)
 
       -- ---- blocks
-
-      signal_if : (c : Bool) (k i : ℕ) (v : Variable) (vs : List Variable) (p : List InnerArm) → (c ≡ true → starts_with p v.list ≡ true) → (signal_rest : Option ℕ) → (signal_rest ≡ Some i → (j : ℕ) × (i ≡ suc k + j) × (starts_with p (list_at vs j) ≡ true))
-          → (if c then Some k else signal_rest) ≡ Some i → (j : ℕ) × (i ≡ k + j) × (starts_with p (list_at (v ∷ vs) j) ≡ true)
-      signal_if true k i v vs p f r h e = let s : k ≡ i = ap (λ z. unwrap_or z i) e in (0, omega (arith, s), f refl)
-      signal_if false k i v vs p f r h e = let q = h e in let z = q.1 in (suc q.0, omega (arith, z), q.2)
-
-      and_right : (a c : Bool) → (a && c) ≡ true → c ≡ true
-      and_right true c e = e
-      and_right false c e = absurd (cc)
-
-      signal_from : (x : ℕ) (p : List InnerArm) (vs : List Variable) (k i : ℕ) → signal_in x p vs k ≡ Some i → (j : ℕ) × (i ≡ k + j) × (starts_with p (list_at vs j) ≡ true)
-      signal_from x p [] k i e = absurd (cc)
-      signal_from x p (v ∷ vs) k i e = signal_if (v.name == x && starts_with p v.list) k i v vs p (and_right (v.name == x) (starts_with p v.list)) (signal_in x p vs (suc k)) (signal_from x p vs (suc k) i) e
-
-      pub signal_around : (x : ℕ) (p : List InnerArm) (i : ℕ) → signal_in x p V 0 ≡ Some i → starts_with p (list_at V i) ≡ true
-      signal_around x p i e = let q = signal_from x p V 0 i e in let z = q.1 in let s : q.0 ≡ i = omega (arith, z) in subst (λ j. starts_with p (list_at V j) ≡ true) s q.2
 
       signal_moved : (m : ℕ) (p : Place) (x : ℕ) (i : Option ℕ) → Homed (arms p) → B' m ≡ put (arms p) (B m) → signal_in x (arms p) V 0 ≡ i
           → AreEqual (opt_pairs (R.signal_meaning schemes cases d cs x i) (R.seen_at schemes cases d cs p (B m))) → AreEqual (opt_pairs (R.signal_meaning schemes cases d C x i) (R.seen_at schemes cases d C p (B' m)))

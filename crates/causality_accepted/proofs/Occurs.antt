@@ -107,7 +107,7 @@ pub outside_begins : (m : ℕ) (p : List InnerArm) → starts_with p (outside m 
 outside_begins m [] = refl
 outside_begins m (a ∷ p) = starts_unless (a.0 == m) a p (outside m p) (outside_begins m p)
 
-keys_on : (p q : List InnerArm) → arm_keys (p ++ q) ≡ arm_keys p ++ arm_keys q
+pub keys_on : (p q : List InnerArm) → arm_keys (p ++ q) ≡ arm_keys p ++ arm_keys q
 keys_on [] q = refl
 keys_on (a ∷ p) q = ap (λ z. arm_key a ∷ z) (keys_on p q)
 

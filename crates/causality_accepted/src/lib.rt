@@ -1,2 +1,4 @@
-//! What the model gives for every accepted file: all its definitions are causal.
+//! Every accepted file is causal in the model of networks.
 #![tactic(auto)]
+
+pub mod laws;
