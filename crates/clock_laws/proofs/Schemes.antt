@@ -23,7 +23,7 @@ use Rattle.clock_rules.specs.Fresh.{facts_of}
 use Rattle.clock_rules.specs.Judged.{IsPrincipal}
 use Rattle.clock_rules.specs.Rules as R
 use Rattle.clock_rules.specs.Rules.{Clocks, at, is_clock_mark}
-use Rattle.clock_rules.specs.Terms.{pointwise, var, names_in, names_step}
+use Rattle.clock_rules.specs.Terms.{var, names_in, names_step}
 use Rattle.clock_rules.proofs.Sides.{all_left, all_right, all_both}
 use Rattle.clock_rules.proofs.Substitution.{With, bottoms, induct, apply_on, apply_arrow, apply_pointwise}
 use Rattle.clock_laws.specs.Scoped.{own, InScheme, IsWell, IsScoped}

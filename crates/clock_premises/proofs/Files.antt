@@ -1,6 +1,6 @@
 -- The definitions of an annotated file, one after the other.
-use Rattle.std.specs.Prelude.{◌≡◌, refl, ℕ, suc, ◌+◌, Bool, true, false, List, [], ◌∷◌, ◌++◌, map, length, Option, Some, None}
-use Rattle.std.proofs.Common.{ap, ap₂, sym, ◌∙◌, subst, arith}
+use Rattle.std.specs.Prelude.{◌≡◌, refl, ℕ, suc, Bool, true, false, List, [], ◌∷◌, ◌++◌, map, length, Option, Some, None}
+use Rattle.std.proofs.Common.{ap, sym, ◌∙◌, subst, arith}
 use Rattle.ls_base.specs.declared.Line.{Line}
 use Rattle.ls_base.specs.declared.Name.{Name}
 use Rattle.ls_ast.specs.declared.tree.BodyOf.{BodyOf}
@@ -23,7 +23,7 @@ use Rattle.tree_notes.proofs.Twice.{body_twice}
 use Rattle.type_rules.specs.Annotations as An
 use Rattle.type_rules.specs.Definitions.{Definition, variables}
 use Rattle.type_rules.specs.Files.{LetOf, Judged, Typed, annotation, lets, in_place, names_count, note_types, signature}
-use Rattle.type_rules.specs.Numbers.{Placed, place_step, place_next, placer}
+use Rattle.type_rules.specs.Numbers.{place_step, place_next, placer}
 use Rattle.type_rules.specs.Principal.{typed_by}
 use Rattle.type_rules.proofs.Annotations.{erased_back}
 use Rattle.scope_rules.specs.After as After

@@ -1,7 +1,7 @@
 -- What the laws of clocks suppose of a definition, from its scope.
-use Rattle.std.specs.Prelude.{◌≡◌, refl, ℕ, zero, suc, ◌+◌, ◌<◌, ◌==◌, ◌&&◌, ◌||◌, not, Bool, true, false, List, [], ◌∷◌, ◌++◌, map, length, slice_get, Option, Some, None, if◌then◌else◌, ◌⊎◌}
+use Rattle.std.specs.Prelude.{◌≡◌, refl, ℕ, zero, suc, ◌+◌, ◌<◌, ◌&&◌, ◌||◌, not, Bool, true, false, List, [], ◌∷◌, ◌++◌, map, length, slice_get, Option, Some, None, if◌then◌else◌, ◌⊎◌}
 use Rattle.std.specs.List.{list_any}
-use Rattle.std.proofs.Common.{ap, ap₂, sym, ◌∙◌, subst, inl, inr, arith, length-append}
+use Rattle.std.proofs.Common.{ap, sym, ◌∙◌, subst, inl, inr, arith, length-append}
 use Rattle.std.proofs.lemmas.Bool.{and_parts}
 use Rattle.ls_ast.specs.declared.tree.BodyOf.{BodyOf}
 use Rattle.ls_ast.specs.declared.tree.Expr.{Expr}
@@ -21,36 +21,32 @@ use Rattle.ls_places.specs.declared.places.Named.{Named}
 use Rattle.ls_places.specs.declared.places.Whole.{Whole}
 use Rattle.tree_notes.specs.Each.{Each}
 use Rattle.tree_notes.specs.Noted.{in_body}
-use Rattle.tree_notes.specs.Order as Or
 use Rattle.scope_rules.specs.Places as P
 use Rattle.scope_rules.specs.Places.{Place, same_place, reads, tests, option_list}
-use Rattle.scope_rules.specs.Claims.{claims, uses}
+use Rattle.scope_rules.specs.Claims.{claims}
 use Rattle.scope_rules.specs.declared.claims.Asked.{Asked}
 use Rattle.scope_rules.specs.declared.claims.Claim.{Claim}
-use Rattle.scope_rules.specs.declared.claims.Claim.TheVariants.{Named as named, Stray as stray}
+use Rattle.scope_rules.specs.declared.claims.Claim.TheVariants.{Named as named}
 use Rattle.scope_rules.specs.declared.claims.Earlier.{Earlier}
-use Rattle.scope_rules.specs.declared.claims.Stand.{Stand}
 use Rattle.scope_rules.specs.declared.claims.Stand.TheVariants.{At as at, Asked as questioned}
-use Rattle.scope_rules.specs.declared.places.Site.{Site}
 use Rattle.scope_rules.specs.Faults as F
 use Rattle.scope_rules.specs.Faults.{Judged, Sight, Fault, Twice, Unbound, NotAllArms, Mixed, NotCombinatorial, asked_by, any_claim, binder_at, var_binder, param_binder, def_binder, is_nothing, clock_way}
-use Rattle.scope_rules.specs.Laws.{InSight, Holding, placed_exprs, whole_key, site_key, variable_key}
+use Rattle.scope_rules.specs.Laws.{InSight, Holding, placed_exprs, whole_key}
 use Rattle.scope_rules.specs.Resolved as R
 use Rattle.scope_rules.proofs.AsFound.{exprs_alike, variables_alike}
 use Rattle.scope_rules.proofs.InSight.{binder_in_sight}
 use Rattle.clock_rules.specs.declared.scheme.ClockScheme.{ClockScheme}
 use Rattle.clock_rules.specs.Facts.{Facts, nodes_of, placed}
 use Rattle.clock_rules.specs.Fresh.{facts_of}
-use Rattle.clock_rules.specs.Layers.{Layer, layers, laid}
+use Rattle.clock_rules.specs.Layers.{Layer, layers}
 use Rattle.clock_rules.specs.Rules.{clock_name, is_clock_of, param_at, param_here, after_names}
 use Rattle.clock_rules.specs.Terms.{is_function}
 use Rattle.clock_laws.specs.Scoped.{IsName, IsScoped, ArmsNamed, FormScoped, NodeScoped}
 use Rattle.type_premises.proofs.Trees as Tr
 use Rattle.clock_premises.specs.Premises.{use_of, SchemesOf, FormGiven, AllGiven}
-use Rattle.clock_premises.proofs.Lists.{differ, or_parts, not_false, each_both, each_left, each_right}
+use Rattle.clock_premises.proofs.Lists.{or_parts, not_false, each_both, each_left, each_right}
 use Rattle.clock_premises.proofs.Walk as W
 use Rattle.clock_premises.proofs.Sites.{clock_number}
-use Rattle.clock_premises.proofs.Conditions as Co
 use Rattle.clock_premises.proofs.Conditions.{SameNames, expr_good}
 
 -- earlier definitions
