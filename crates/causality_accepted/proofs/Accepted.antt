@@ -1,6 +1,6 @@
 -- The definitions of a file whose scope, types and clocks are judged.
-use Rattle.std.specs.Prelude.{◌≡◌, refl, ℕ, zero, suc, List, [], ◌∷◌, ◌++◌, map, Option, Some, None}
-use Rattle.std.proofs.Common.{ap, ap₂, sym, ◌∙◌, subst}
+use Rattle.std.specs.Prelude.{◌≡◌, refl, ℕ, zero, suc, List, [], ◌∷◌, ◌++◌, map, Option, None}
+use Rattle.std.proofs.Common.{ap, sym, ◌∙◌, subst}
 use Rattle.ls_ast.specs.declared.tree.BodyOf.{BodyOf}
 use Rattle.ls_ast.specs.declared.tree.DefOf.{DefOf}
 use Rattle.ls_ast.specs.declared.tree.DefOf.TheVariants as item
@@ -17,7 +17,6 @@ use Rattle.ls_sig.specs.declared.sigs.Item.{Item}
 use Rattle.ls_sig.specs.declared.sigs.Sig.{Sig}
 use Rattle.ls_places.specs.Clocks.{or_else}
 use Rattle.ls_places.specs.Definitions.{case_place, constructor_place, definition_of, definitions, place_in}
-use Rattle.ls_places.specs.Search.{nth}
 use Rattle.ls_places.specs.declared.definition.Definition.{Definition}
 use Rattle.tree_notes.specs.Each.{Each}
 use Rattle.tree_notes.specs.Noted as T

@@ -1,12 +1,12 @@
 -- In a definition with principal clocks, clocks are sampled on its names alone, and what the model reads besides the rules of
 -- causality stands around.
-use Rattle.std.specs.Prelude.{◌≡◌, refl, ◌⊎◌, ℕ, zero, suc, ◌+◌, ◌-◌, ◌==◌, ◌<◌, ◌≤◌, ◌&&◌, ◌||◌, nat_lt, Bool, true, false, List, [], ◌∷◌, ◌++◌, map, length, Option, Some, None, option_map, unwrap_or, if◌then◌else◌}
-use Rattle.std.proofs.Common.{ap, ap₂, sym, ◌∙◌, subst, inl, inr, arith}
-use Rattle.std.proofs.lemmas.Bool.{eqb-true, eq-eqb, ltb-true}
+use Rattle.std.specs.Prelude.{◌≡◌, refl, ◌⊎◌, ℕ, zero, suc, ◌+◌, ◌-◌, ◌==◌, ◌<◌, ◌≤◌, ◌||◌, nat_lt, Bool, true, false, List, [], ◌∷◌, ◌++◌, map, length, Option, Some, None, option_map, unwrap_or, if◌then◌else◌}
+use Rattle.std.proofs.Common.{ap, sym, ◌∙◌, subst, inl, inr, arith}
+use Rattle.std.proofs.lemmas.Bool.{eqb-true, ltb-true}
 use Rattle.std.proofs.lemmas.Bool.Decides.{nat_tests}
 use Rattle.ls_ast.specs.declared.tree.BodyOf.{BodyOf}
 use Rattle.ls_value.specs.declared.leaf.Leaf.TheVariants as leaf
-use Rattle.ls_ast.specs.declared.tree.Expr.{Expr, fold_out-Expr}
+use Rattle.ls_ast.specs.declared.tree.Expr.{fold_out-Expr}
 use Rattle.ls_ast.specs.declared.tree.Form.{fold-roll-Form}
 use Rattle.ls_ast.specs.declared.tree.Form.TheOpen.{Form-F}
 use Rattle.ls_ast.specs.declared.tree.Form.TheVariants as form
@@ -25,7 +25,7 @@ use Rattle.ls_places.specs.Definitions.{definition_of, note_clocks}
 use Rattle.ls_places.specs.Patterns.{has_name, names_of}
 use Rattle.ls_places.specs.Places as F
 use Rattle.ls_places.specs.Places.{InnerArm, Place, arms}
-use Rattle.ls_places.specs.Search.{all_clocks, home_of, in_signature, list_of, mode_clock, never, nth, param_clock, signal_at, signal_in, signal_list, sites_of, starts_with, tested_outside, whole_at, whole_of}
+use Rattle.ls_places.specs.Search.{all_clocks, home_of, in_signature, list_of, mode_clock, never, nth, param_clock, signal_in, signal_list, sites_of, starts_with, tested_outside, whole_at, whole_of}
 use Rattle.ls_places.specs.declared.places.Named.{Named}
 use Rattle.ls_places.specs.declared.places.Named.TheVariants as named
 use Rattle.ls_places.specs.declared.places.Right.{Right}
@@ -51,7 +51,7 @@ use Rattle.clock_rules.specs.Rules.{AreEqual, Clocks, at, sampled, list_at}
 use Rattle.clock_rules.specs.Terms.{is_function, pointwise}
 use Rattle.clock_rules.proofs.Noting.{exprs_are, nodes_of_notes}
 use Rattle.clock_rules.proofs.Seen.{bare_sampled}
-use Rattle.clock_rules.proofs.Sides.{all_left, all_right, all_both}
+use Rattle.clock_rules.proofs.Sides.{all_right}
 use Rattle.clock_laws.specs.Laws.{AreWellFormed}
 use Rattle.clock_laws.specs.Scoped.{own, named_clock, IsScoped, IsWell}
 use Rattle.clock_laws.specs.WellFormed.{IsWellFormed, samplings}
@@ -60,7 +60,7 @@ use Rattle.clock_laws.proofs.Shrink.{samplings_pointwise}
 use Rattle.causality_links.specs.Close as close
 use Rattle.causality_links.specs.Close.{Close, Sub}
 use Rattle.causality_links.proofs.Causes.{arms_sub}
-use Rattle.causality_premises.specs.Premises.{ClockKnown, ClocksKnown, NoteKnown, names_sampled}
+use Rattle.causality_premises.specs.Premises.{ClockKnown, ClocksKnown, NoteKnown}
 use Rattle.causality_accepted.proofs.Placed as Pl
 use Rattle.causality_accepted.proofs.Occurs as Oc
 use Rattle.causality_accepted.proofs.Parts as Pa

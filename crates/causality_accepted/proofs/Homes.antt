@@ -1,5 +1,5 @@
 -- The clock of a block that something noted is sampled on occurs inside the home of each of its variables.
-use Rattle.std.specs.Prelude.{◌≡◌, refl, ℕ, zero, suc, ◌+◌, Bool, true, false, List, [], ◌∷◌, ◌++◌, map, length, Option, Some, None, option_map, unwrap_or, if◌then◌else◌}
+use Rattle.std.specs.Prelude.{◌≡◌, refl, ℕ, Bool, true, false, List, [], ◌∷◌, map, Option, Some, None, option_map, unwrap_or, if◌then◌else◌}
 use Rattle.std.proofs.Common.{ap, ap₂, sym, ◌∙◌, subst, inl, inr}
 use Rattle.ls_ast.specs.declared.tree.BodyOf.{BodyOf}
 use Rattle.ls_ast.specs.declared.tree.Mark.{Mark}
@@ -13,13 +13,12 @@ use Rattle.ls_places.specs.Clocks.{clocks_in, mentions}
 use Rattle.ls_places.specs.Places.{InnerArm, Place}
 use Rattle.ls_places.specs.Search.{nth}
 use Rattle.ls_places.specs.declared.places.Whole.{Whole}
-use Rattle.digraph.specs.Graph.{In, first as here, later}
+use Rattle.digraph.specs.Graph.{In}
 use Rattle.tree_notes.specs.Each.{Each}
-use Rattle.tree_notes.specs.Noted as T
 use Rattle.clock_rules.specs.declared.scheme.ClockScheme.{ClockScheme}
 use Rattle.clock_rules.specs.Facts.{Facts, nodes_of, placed}
 use Rattle.clock_rules.specs.Fresh.{facts_of}
-use Rattle.clock_rules.specs.Instances.{in_note, map_facts, map_node}
+use Rattle.clock_rules.specs.Instances.{in_note, map_node}
 use Rattle.clock_rules.specs.Judged.{IsPrincipal, IsInstance}
 use Rattle.clock_rules.specs.Layers.{Layer, layers}
 use Rattle.clock_rules.specs.Rules.{Clocks, at}
@@ -45,7 +44,7 @@ module _ (function : Note → Bool) where
   whole_layers P [] x i h = absurd (Oc.none_in i)
   whole_layers P (y ∷ xs) x i h = elim (Oc.in_cons x y xs i) [
     | inl e ↦ subst (λ (z : Whole Note). Each (λ l. P (l, z.place)) (layers Note function z.expr)) e
-          (placed_layers P y.place (layers Note function y.expr) (all_left P (placed Note y.place (layers Note function y.expr)) (nodes_of Note function xs) h))
+        (placed_layers P y.place (layers Note function y.expr) (all_left P (placed Note y.place (layers Note function y.expr)) (nodes_of Note function xs) h))
     | inr j ↦ whole_layers P xs x j (all_right P (placed Note y.place (layers Note function y.expr)) (nodes_of Note function xs) h)
   ]
 

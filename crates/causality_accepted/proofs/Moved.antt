@@ -1,5 +1,5 @@
 -- Another variable in those clocks of variables and blocks that occur outside of the home of a variable: the rules still hold.
-use Rattle.std.specs.Prelude.{◌≡◌, refl, ◌⊎◌, ℕ, zero, suc, ◌+◌, ◌-◌, ◌==◌, ◌<◌, ◌≤◌, ◌&&◌, not, nat_lt, Bool, true, false, List, [], ◌∷◌, ◌++◌, map, length, drop, Option, Some, None, option_map, unwrap_or, if◌then◌else◌}
+use Rattle.std.specs.Prelude.{◌≡◌, refl, ◌⊎◌, ℕ, zero, suc, ◌+◌, ◌-◌, ◌==◌, ◌<◌, ◌&&◌, not, nat_lt, Bool, true, false, List, [], ◌∷◌, ◌++◌, map, length, drop, Option, Some, None, option_map, unwrap_or, if◌then◌else◌}
 use Rattle.std.proofs.Common.{ap, ap₂, sym, ◌∙◌, subst, inl, inr, arith, append_assoc}
 use Rattle.std.proofs.lemmas.Bool.Decides.{nat_tests}
 use Rattle.ls_ast.specs.declared.tree.BodyOf.{BodyOf}
@@ -32,12 +32,12 @@ use Rattle.ls_places.specs.declared.places.Whole.{Whole}
 use Rattle.digraph.specs.Graph.{In, first as here, later}
 use Rattle.tree_notes.specs.Each.{Each}
 use Rattle.clock_rules.specs.declared.scheme.ClockScheme.{ClockScheme}
-use Rattle.clock_rules.specs.Facts.{Facts, nodes_of, placed, whole_notes}
+use Rattle.clock_rules.specs.Facts.{Facts, nodes_of, placed}
 use Rattle.clock_rules.specs.Fresh.{facts_of}
 use Rattle.clock_rules.specs.Layers.{Layer, layers}
 use Rattle.clock_rules.specs.Rules as R
 use Rattle.clock_rules.specs.Rules.{Pair, Clocks, AreEqual, at, sampled, opt_pairs, innermost, list_at, is_clock_mark}
-use Rattle.clock_rules.specs.Terms.{on, arrow, pointwise, instance, is_function, is_comb, names_in, limit, IsClock, IsClockOf}
+use Rattle.clock_rules.specs.Terms.{on, arrow, pointwise, instance, is_function, is_comb, names_in, IsClock, IsClockOf}
 use Rattle.clock_rules.proofs.Sides.{all_left, all_right, all_both}
 use Rattle.causality_accepted.proofs.Placed as Pl
 use Rattle.causality_accepted.proofs.Occurs as Oc

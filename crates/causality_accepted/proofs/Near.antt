@@ -1,19 +1,18 @@
 -- What the model reads and the rules of causality do not name stands around the place that reads it.
-use Rattle.std.specs.Prelude.{◌≡◌, refl, ◌⊎◌, ℕ, zero, suc, ◌+◌, ◌-◌, ◌==◌, ◌<◌, ◌≤◌, ◌&&◌, ◌||◌, nat_lt, Bool, true, false, List, [], ◌∷◌, ◌++◌, map, length, Option, Some, None, option_map, if◌then◌else◌}
-use Rattle.std.proofs.Common.{ap, ap₂, sym, ◌∙◌, subst, inl, inr, arith}
-use Rattle.std.proofs.lemmas.Bool.{eqb-true, eq-eqb, ltb-true}
+use Rattle.std.specs.Prelude.{◌≡◌, refl, ℕ, zero, suc, ◌+◌, ◌-◌, ◌==◌, ◌<◌, ◌≤◌, ◌||◌, nat_lt, Bool, true, false, List, [], ◌∷◌, ◌++◌, map, length, Option, Some, None, if◌then◌else◌}
+use Rattle.std.proofs.Common.{ap, sym, ◌∙◌, subst, inl, inr, arith}
+use Rattle.std.proofs.lemmas.Bool.{eqb-true, eq-eqb}
 use Rattle.std.proofs.lemmas.Bool.Decides.{nat_tests}
 use Rattle.ls_ast.specs.declared.tree.Case.{Case}
-use Rattle.ls_ast.specs.declared.tree.Expr.{Expr, Expr-F}
+use Rattle.ls_ast.specs.declared.tree.Expr.{Expr-F}
 use Rattle.ls_ast.specs.declared.tree.Form.TheOpen.{Form-F}
 use Rattle.ls_terms.specs.declared.clocks.ClockTerm.{ClockTerm, fold-roll-ClockTerm, map-ClockTerm, out-ClockTerm, roll-ClockTerm, roll-out-ClockTerm}
 use Rattle.ls_terms.specs.declared.clocks.ClockTerm.TheOpen.{ClockTerm-F}
 use Rattle.ls_sig.specs.declared.binder.Note.{Note}
 use Rattle.ls_places.specs.Clocks.{any, below, below_open, choice_parts, clock_depth, clocks_in, mentions, mentions_step, noted, or_else}
 use Rattle.ls_places.specs.Patterns.{joined}
-use Rattle.ls_places.specs.Places.{InnerArm, Place, arms}
+use Rattle.ls_places.specs.Places.{InnerArm}
 use Rattle.ls_places.specs.Search.{E, all_clocks, arms_within, home_of, in_signature, nth}
-use Rattle.ls_places.specs.declared.places.Named.{Named}
 use Rattle.ls_places.specs.declared.places.Whole.{Whole}
 use Rattle.ls_places.specs.declared.definition.Key.{Key}
 use Rattle.ls_places.specs.declared.definition.Definition.{Definition}
@@ -25,11 +24,10 @@ use Rattle.tree_notes.proofs.Refold.{in_choices}
 use Rattle.tree_notes.proofs.Related.{related}
 use Rattle.kahn_model.specs.Reads.{arm_key, arm_keys}
 use Rattle.clock_rules.specs.Layers.{Layer, Laid, Inside, expr_layers, form_layers, laid_layers, layers}
-use Rattle.clock_rules.specs.Terms.{on}
 use Rattle.clock_rules.proofs.Sides.{all_left, all_right, all_both}
 use Rattle.clock_rules.proofs.Substitution.{With, bottoms, induct}
 use Rattle.clock_laws.specs.WellFormed.{samplings}
-use Rattle.clock_laws.proofs.Shrink.{samplings_var, samplings_on, samplings_pointwise, samplings_arrow}
+use Rattle.clock_laws.proofs.Shrink.{samplings_on, samplings_arrow}
 use Rattle.causality_links.specs.Close as close
 use Rattle.causality_links.specs.Close.{Sub, Two, Wide, all_wide, every_wide}
 use Rattle.causality_premises.specs.Premises.{names_sampled, sampled_step}

@@ -1,5 +1,5 @@
 -- Where a clock variable occurs, and the smallest arm that holds all its occurrences.
-use Rattle.std.specs.Prelude.{◌≡◌, refl, ◌⊎◌, ℕ, zero, suc, ◌+◌, ◌-◌, ◌==◌, ◌<◌, ◌≤◌, ◌&&◌, ◌||◌, nat_lt, Bool, true, false, List, [], ◌∷◌, ◌++◌, map, length, Option, Some, None, if◌then◌else◌}
+use Rattle.std.specs.Prelude.{◌≡◌, refl, ◌⊎◌, ℕ, ◌==◌, ◌&&◌, ◌||◌, Bool, true, false, List, [], ◌∷◌, ◌++◌, map, length, Option, Some, None, if◌then◌else◌}
 use Rattle.std.proofs.Common.{ap, ap₂, sym, ◌∙◌, subst, inl, inr, arith, append_assoc}
 use Rattle.std.proofs.lemmas.Bool.{and_parts, eqb-true, eq-eqb}
 use Rattle.ls_terms.specs.declared.clocks.ClockTerm.{ClockTerm, fold-roll-ClockTerm, map-ClockTerm, roll-ClockTerm}
@@ -7,10 +7,9 @@ use Rattle.ls_terms.specs.declared.clocks.ClockTerm.TheOpen.{ClockTerm-F}
 use Rattle.ls_sig.specs.declared.binder.Note.{Note}
 use Rattle.ls_places.specs.Clocks.{any, clocks_in, mentions, mentions_step}
 use Rattle.ls_places.specs.Places.{InnerArm, arms}
-use Rattle.ls_places.specs.Search.{Occurring, all_occurring, common, home_of, narrow, nth, occurrences, occurs_step, outside, places_of, starts_with, term_places}
+use Rattle.ls_places.specs.Search.{Occurring, all_occurring, common, home_of, narrow, occurrences, occurs_step, outside, places_of, starts_with, term_places}
 use Rattle.ls_places.specs.declared.places.Variable.{Variable}
 use Rattle.ls_places.specs.declared.places.Whole.{Whole}
-use Rattle.ls_places.specs.declared.definition.Key.{Key}
 use Rattle.digraph.specs.Graph.{In, first as here, later}
 use Rattle.kahn_model.specs.Reads.{arm_key, arm_keys}
 use Rattle.clock_rules.specs.Rules.{sampled}
@@ -253,7 +252,7 @@ module _ (w : ℕ) where
   in_places x [] q t i j h = absurd (none_in i)
   in_places x (y ∷ all) q t i j h = elim (in_cons x y all i) [
     | inl e ↦ in_left q (term_places w (arms y.place) (clocks_in y.expr)) (places_of w all)
-          (subst (λ (z : Whole Note). In q (term_places w (arms z.place) (clocks_in z.expr))) (sym e) (in_terms (arms x.place) q t (clocks_in x.expr) j h))
+        (subst (λ (z : Whole Note). In q (term_places w (arms z.place) (clocks_in z.expr))) (sym e) (in_terms (arms x.place) q t (clocks_in x.expr) j h))
     | inr g ↦ in_right q (term_places w (arms y.place) (clocks_in y.expr)) (places_of w all) (in_places x all q t g j h)
   ]
 

@@ -1,12 +1,12 @@
 -- What holds of all clocks noted in an expression holds of those of its layers and of their direct parts.
-use Rattle.std.specs.Prelude.{◌≡◌, refl, Bool, List, [], ◌∷◌, ◌++◌, map, Option, Some, None}
-use Rattle.std.proofs.Common.{ap, sym, subst}
+use Rattle.std.specs.Prelude.{Bool, List, [], ◌∷◌, ◌++◌, map, Some, None}
+use Rattle.std.proofs.Common.{sym, subst}
 use Rattle.ls_ast.specs.declared.tree.Case.{Case}
 use Rattle.ls_ast.specs.declared.tree.Expr.{Expr, Expr-F, fold_out-Expr}
 use Rattle.ls_ast.specs.declared.tree.Form.TheOpen.{Form-F}
 use Rattle.ls_terms.specs.declared.clocks.ClockTerm.{ClockTerm}
 use Rattle.ls_sig.specs.declared.binder.Note.{Note}
-use Rattle.ls_places.specs.Clocks.{choice_parts, clocks_expr, clocks_form, clocks_in, form_parts, option_part}
+use Rattle.ls_places.specs.Clocks.{choice_parts, clocks_expr, clocks_form, clocks_in, form_parts}
 use Rattle.ls_places.specs.Patterns.{joined}
 use Rattle.digraph.specs.Graph.{In, first as here}
 use Rattle.tree_notes.specs.Each.{Each}

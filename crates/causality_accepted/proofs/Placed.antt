@@ -1,7 +1,7 @@
 -- What stands where in a body: each arm is of a block that stands just outside, an equation stands inside the list that binds
 -- its names, and whole expressions stand where what names them does.
 use Rattle.std.specs.Prelude.{◌≡◌, refl, ◌⊎◌, ℕ, zero, suc, ◌+◌, ◌-◌, ◌==◌, ◌<◌, ◌&&◌, nat_lt, Bool, true, false, List, [], ◌∷◌, ◌++◌, map, length, slice_set, Option, Some, None, option_map, unwrap_or, if◌then◌else◌}
-use Rattle.std.proofs.Common.{ap, ap₂, sym, ◌∙◌, subst, inl, inr, arith, append_assoc}
+use Rattle.std.proofs.Common.{ap, sym, ◌∙◌, subst, inl, inr, arith, append_assoc}
 use Rattle.std.proofs.lemmas.Bool.{and_parts, eqb-true}
 use Rattle.std.proofs.lemmas.Bool.Decides.{nat_tests}
 use Rattle.ls_ast.specs.declared.tree.Pat.{Pat}
@@ -375,7 +375,9 @@ module _ (first : ℕ) (E : List (Whole Note)) (V : List Variable) (S : List (Op
     binds_then l b c d p q = record {
       new = λ k v e. elim (q.new k v e) [ inl h ↦ elim (p.new k v h) [ inl i ↦ inl i | inr i ↦ inr (q.kept k i) ] | inr h ↦ inr h ];
       kept = λ k i. q.kept k (p.kept k i);
-      more = more_then b.0 c.0 d.0 p.more q.more; listed = λ h. q.listed (p.listed h); vars = λ h. q.vars (p.vars h);
+      more = more_then b.0 c.0 d.0 p.more q.more;
+      listed = λ h. q.listed (p.listed h);
+      vars = λ h. q.vars (p.vars h);
     }
 
     binds_none : (l : List InnerArm) (b : F.Bound) → Binds l b b
@@ -410,7 +412,11 @@ module _ (first : ℕ) (E : List (Whole Note)) (V : List Variable) (S : List (Op
     placed_read : (e : Expr Note) (v : around_of.Where) (g : G) → At v → Placed g → Placed (F.reading Note e v.place g)
     placed_read e v g a h = record {
       exprs = each_both (λ (x : Whole Note). Homed (arms x.place)) g.exprs (record { expr = e; place = v.place } ∷ []) h.exprs (a.homed, tt);
-      sited = h.sited; sites = h.sites; starts = h.starts; vars = h.vars; names = h.names;
+      sited = h.sited;
+      sites = h.sites;
+      starts = h.starts;
+      vars = h.vars;
+      names = h.names;
     }
 
     placed_name : (n : Named) (g : G) → NamedPlaced (length g.names) n → Placed g → Placed (F.naming Note n g)
@@ -648,8 +654,8 @@ module _ (first : ℕ) (E : List (Whole Note)) (V : List Variable) (S : List (Op
                 starts = h2.starts;
                 vars = h2.vars;
                 names = subst (NamesPlaced 0) (sym is3) (names_on 0 g.names (named.Active strong p ∷ named.Tested weak p ∷ more) h.names
-                (subst (λ j. NamesPlaced j (named.Active strong p ∷ named.Tested weak p ∷ more)) zero_on
-                (pair strong weak more (strong_states all m 0 v g1 f2) (weak_states all m 0 v g1 f2) (subst (λ j. NamesPlaced (suc (suc j)) more) (sym zero_on) inside))));
+                    (subst (λ j. NamesPlaced j (named.Active strong p ∷ named.Tested weak p ∷ more)) zero_on
+                    (pair strong weak more (strong_states all m 0 v g1 f2) (weak_states all m 0 v g1 f2) (subst (λ j. NamesPlaced (suc (suc j)) more) (sym zero_on) inside))));
               }),
         )
 
@@ -681,7 +687,11 @@ module _ (first : ℕ) (E : List (Whole Note)) (V : List Variable) (S : List (Op
               let q = placed_read e v g a h in
               let f1 : Final g1 = record { exprs = f.exprs; vars = f.vars; names = f.names } in
               record {
-                sited = q.sited; exprs = q.exprs; sites = q.sites; vars = q.vars; names = q.names;
+                sited = q.sited;
+                exprs = q.exprs;
+                sites = q.sites;
+                vars = q.vars;
+                names = q.names;
                 starts = each_both StartPlaced g.starts (record { name = x.0; list = arms (F.spot v); right = F.next_expr Note g } ∷ []) h.starts (record { inner = v.inner; at = subst (StandsAt (F.next_expr Note g)) a.split (stands_next e v.place g f1) }, tt);
               }),
         )
@@ -752,7 +762,7 @@ module _ (first : ℕ) (E : List (Whole Note)) (V : List Variable) (S : List (Op
         let w = guards_done y.weak m j v g2 in
         record {
           does = then_ g g1 g3 (Block m v × At v) Given Given (λ x. (x.0, x.2)) (λ x. x) (y.handler.2 m j v g)
-          (then_ g1 g2 g3 (Block (m + 1) v × At v) (Block m v × At v) Given (λ x. (x.1, x.2)) (λ x. (x.0, x.2)) s w);
+              (then_ g1 g2 g3 (Block (m + 1) v × At v) (Block m v × At v) Given (λ x. (x.1, x.2)) (λ x. (x.0, x.2)) s w);
           strong = λ f. guard_conds y.strong (m + 1) j v g1 (final_back g2 g3 w.0 f);
           weak = λ f. guard_conds y.weak m j v g2 f;
         }

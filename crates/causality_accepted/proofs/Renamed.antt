@@ -1,18 +1,18 @@
 -- Another variable in place of one; and what a substitution leaves as it is.
-use Rattle.std.specs.Prelude.{◌≡◌, refl, ℕ, zero, suc, ◌+◌, ◌==◌, ◌≤◌, ◌&&◌, ◌||◌, Bool, true, false, List, [], ◌∷◌, ◌++◌, map, Option, Some, None, unwrap_or, if◌then◌else◌}
+use Rattle.std.specs.Prelude.{◌≡◌, refl, ℕ, suc, ◌+◌, ◌==◌, ◌||◌, Bool, true, false, List, [], ◌∷◌, ◌++◌, map, Option, Some, None, unwrap_or, if◌then◌else◌}
 use Rattle.std.proofs.Common.{ap, ap₂, sym, ◌∙◌, subst, arith}
-use Rattle.std.proofs.lemmas.Bool.{and_parts, eqb-true, eq-eqb}
+use Rattle.std.proofs.lemmas.Bool.{eqb-true, eq-eqb}
 use Rattle.std.proofs.lemmas.Bool.Decides.{nat_tests}
 use Rattle.ls_terms.specs.declared.clocks.ClockTerm.{ClockTerm, fold-roll-ClockTerm, map-ClockTerm, out-ClockTerm, out-roll-ClockTerm, roll-ClockTerm}
 use Rattle.ls_terms.specs.declared.clocks.ClockTerm.TheOpen.{ClockTerm-F}
 use Rattle.ls_terms.specs.declared.types.Kind.TheVariants as kind
-use Rattle.ls_terms.specs.declared.types.TypeTerm.{TypeTerm, fold-roll-TypeTerm, map-TypeTerm, out-TypeTerm, roll-TypeTerm, out-roll-TypeTerm, roll-out-TypeTerm}
+use Rattle.ls_terms.specs.declared.types.TypeTerm.{TypeTerm, fold-roll-TypeTerm, map-TypeTerm, out-TypeTerm, roll-out-TypeTerm}
 use Rattle.ls_terms.specs.declared.types.TypeTerm.TheOpen.{TypeTerm-F}
 use Rattle.ls_terms.specs.Clocks.{apply, apply_at, size, kids_at, sum, stands, stands_at}
 use Rattle.ls_places.specs.Clocks.{any, arrow_type, mentions, mentions_step}
 use Rattle.tree_notes.specs.Each.{Each}
 use Rattle.tree_notes.specs.Order.{joined}
-use Rattle.clock_rules.specs.Terms.{on, arrow, pointwise, var, names_in, names_step, fits, fits_step, fit_arrow, is_pointwise, is_function, Form}
+use Rattle.clock_rules.specs.Terms.{on, var, names_in, names_step, fits, fits_step, fit_arrow, is_pointwise, is_function, Form}
 use Rattle.clock_rules.proofs.Sides.{all_left, all_right, all_both, stands_up}
 use Rattle.clock_rules.proofs.Substitution.{With, bottoms, induct, apply_on, apply_arrow, apply_pointwise}
 use Rattle.clock_laws.specs.WellFormed.{samplings}

@@ -1,5 +1,5 @@
 -- What scope says of the expressions of a definition: variables that are used are bound around, conditions in the same arms.
-use Rattle.std.specs.Prelude.{◌≡◌, refl, ℕ, zero, suc, ◌+◌, ◌==◌, ◌<◌, ◌≤◌, ◌&&◌, ◌||◌, not, Bool, true, false, List, [], ◌∷◌, ◌++◌, map, length, slice_get, Option, Some, None, option_map, if◌then◌else◌}
+use Rattle.std.specs.Prelude.{◌≡◌, refl, ℕ, zero, suc, ◌+◌, ◌==◌, ◌<◌, ◌&&◌, ◌||◌, Bool, true, false, List, [], ◌∷◌, ◌++◌, map, length, slice_get, Option, Some, None, if◌then◌else◌}
 use Rattle.std.specs.List.{list_any}
 use Rattle.std.proofs.Common.{ap, ap₂, sym, ◌∙◌, subst, arith}
 use Rattle.std.proofs.lemmas.Bool.{and_parts, eqb-true, eq-eqb}
@@ -39,7 +39,7 @@ use Rattle.scope_rules.proofs.InSight.{binder_in_sight, uses_in_sight}
 use Rattle.clock_rules.specs.declared.scheme.ClockScheme.{ClockScheme}
 use Rattle.clock_rules.specs.Facts.{Facts, nodes_of, placed}
 use Rattle.clock_rules.specs.Fresh.{facts_of}
-use Rattle.clock_rules.specs.Layers.{Layer, layers, laid}
+use Rattle.clock_rules.specs.Layers.{Layer, layers}
 use Rattle.clock_rules.specs.Rules.{clock_name, is_clock_of, list_at}
 use Rattle.clock_rules.specs.Terms.{is_function}
 use Rattle.clock_rules.proofs.Noting.{exprs_are}
