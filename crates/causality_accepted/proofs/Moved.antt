@@ -754,8 +754,8 @@ module _ (schemes : List ClockScheme) (cases : ℕ → Option ℕ) (params : Lis
         within = subst (R.IsWithin schemes cases d C v.list) (sym (var_at x)) (within_put v.list (list_at V x) (at cs.vars x) h.within);
       }
 
-      named_moved' : (j : ℕ) (n : Named) → R.BlockObeys schemes cases d cs j n → R.BlockObeys schemes cases d C j n
-      named_moved' j n h = record {
+      block_condition : (j : ℕ) (n : Named) → R.BlockObeys schemes cases d cs j n → R.BlockObeys schemes cases d C j n
+      block_condition j n h = record {
         clock = subst IsClock (sym (block_at j)) (put_clock (place_at j) (at cs.blocks j) h.clock);
         arm = (let e = ap size (block_at j) ∙ put_size (place_at j) (at cs.blocks j) in let a = h.arm in omega (arith, e, a));
         within = subst (R.IsWithin schemes cases d C (R.name_place schemes cases d C n)) (sym (block_at j)) (within_put (R.name_place schemes cases d cs n) (place_at j) (at cs.blocks j) h.within);
@@ -769,7 +769,7 @@ module _ (schemes : List ClockScheme) (cases : ℕ → Option ℕ) (params : Lis
           many_vars = long_put (list_at V) 0 cs.vars ∙ o.conditions.many_vars;
           many_blocks = long_put place_at 0 cs.blocks ∙ o.conditions.many_blocks;
           vars = λ x v e. var_moved x v (o.conditions.vars x v e);
-          blocks = λ j n e. named_moved' j n (o.conditions.blocks j n e);
+          blocks = λ j n e. block_condition j n (o.conditions.blocks j n e);
           params = each_zip (R.ParamObeys schemes cases d cs) (R.ParamObeys schemes cases d cs) (R.ParamObeys schemes cases d C) (λ n x y. record { clock = x.clock; public = x.public }) notes o.conditions.params o.conditions.params;
           result = o.conditions.result;
           acyclic = record { rank = o.conditions.acyclic.rank; below = o.conditions.acyclic.below };

@@ -41,13 +41,10 @@ sub_none zs l h = absurd (Oc.none_in h)
 pub sub_both : (xs ys zs : List Key) → Sub xs zs → Sub ys zs → Sub (xs ++ ys) zs
 sub_both xs ys zs f g l h = elim (Oc.in_split l xs ys h) [ inl a ↦ f l a | inr a ↦ g l a ]
 
-within_sub : (l p : List InnerArm) → Sub (arm_keys (arms_within l p)) (arm_keys p)
-within_sub [] p k h = h
-within_sub (a ∷ l) [] k h = h
-within_sub (a ∷ l) (c ∷ p) k h = later (arm_key c) (arm_keys p) (within_sub l p k h)
-
 pub arms_within_sub : (l p : List InnerArm) → Sub (arm_keys (arms_within l p)) (arm_keys p)
-arms_within_sub = within_sub
+arms_within_sub [] p k h = h
+arms_within_sub (a ∷ l) [] k h = h
+arms_within_sub (a ∷ l) (c ∷ p) k h = later (arm_key c) (arm_keys p) (arms_within_sub l p k h)
 
 -- ---- the names that a clock is sampled on
 

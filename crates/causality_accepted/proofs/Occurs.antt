@@ -16,6 +16,7 @@ use Rattle.clock_rules.specs.Rules.{sampled}
 use Rattle.clock_rules.specs.Terms.{on}
 use Rattle.clock_rules.proofs.Substitution.{With, bottoms, induct}
 use Rattle.causality_links.specs.Close.{Sub}
+pub use Rattle.causality_accepted.proofs.Placed.{in_left, in_right}
 use Rattle.causality_accepted.proofs.Placed as Pl
 
 -- ---- lists
@@ -26,14 +27,6 @@ none_in h = elim h [ ]
 pub in_cons : {A : Type 0} (x z : A) (zs : List A) → In x (z ∷ zs) → (z ≡ x) ⊎ In x zs
 in_cons x _ _ (here zs) = inl refl
 in_cons x _ _ (later z zs h) = inr h
-
-pub in_left : {A : Type 0} (x : A) (xs ys : List A) → In x xs → In x (xs ++ ys)
-in_left x _ ys (here xs) = here (xs ++ ys)
-in_left x _ ys (later z xs h) = later z (xs ++ ys) (in_left x xs ys h)
-
-pub in_right : {A : Type 0} (x : A) (xs ys : List A) → In x ys → In x (xs ++ ys)
-in_right x [] ys h = h
-in_right x (z ∷ xs) ys h = later z (xs ++ ys) (in_right x xs ys h)
 
 pub in_split : {A : Type 0} (x : A) (xs ys : List A) → In x (xs ++ ys) → In x xs ⊎ In x ys
 in_split x [] ys h = inr h

@@ -91,11 +91,11 @@ nth_end [] x (suc k) y e = absurd (cc)
 nth_end (z ∷ xs) x zero y e = inl e
 nth_end (z ∷ xs) x (suc k) y e = elim (nth_end xs x k y e) [ inl h ↦ inl h | inr h ↦ inr (ap suc h) ]
 
-in_left : {A : Type 0} (x : A) (xs ys : List A) → In x xs → In x (xs ++ ys)
+pub in_left : {A : Type 0} (x : A) (xs ys : List A) → In x xs → In x (xs ++ ys)
 in_left x _ ys (here xs) = here (xs ++ ys)
 in_left x _ ys (later z xs h) = later z (xs ++ ys) (in_left x xs ys h)
 
-in_right : {A : Type 0} (x : A) (xs ys : List A) → In x ys → In x (xs ++ ys)
+pub in_right : {A : Type 0} (x : A) (xs ys : List A) → In x ys → In x (xs ++ ys)
 in_right x [] ys h = h
 in_right x (z ∷ xs) ys h = later z (xs ++ ys) (in_right x xs ys h)
 
@@ -107,7 +107,7 @@ arms_on [] q = refl
 arms_on (frame.Reset r ∷ p) q = arms_on p q
 arms_on (frame.Arm m j ∷ p) q = ap (λ z. (m, j) ∷ z) (arms_on p q)
 
-arms_are : (p q : List InnerArm) → same_arms p q ≡ true → p ≡ q
+pub arms_are : (p q : List InnerArm) → same_arms p q ≡ true → p ≡ q
 arms_are [] [] e = refl
 arms_are [] (b ∷ q) e = absurd (cc)
 arms_are (a ∷ p) [] e = absurd (cc)

@@ -51,6 +51,7 @@ use Rattle.clock_premises.specs.Premises.{use_of, SchemesOf, FormGiven, AllGiven
 use Rattle.clock_premises.proofs.Lists.{or_parts, not_false}
 use Rattle.clock_premises.proofs.Conditions.{expr_good}
 use Rattle.clock_premises.proofs.Scope as Sc
+use Rattle.causality_accepted.proofs.Placed.{arms_are}
 use Rattle.causality_accepted.proofs.Occurs.{starts_on}
 use Rattle.causality_accepted.proofs.Moved as M
 use Rattle.causality_accepted.proofs.Moved.{NodeUsed, Here, HereAt, GivenHere, CallHere, FormHere}
@@ -79,15 +80,6 @@ arms_self : (p : List InnerArm) → same_arms p p ≡ true
 arms_self [] = refl
 arms_self (a ∷ p) = ap₂ (λ x y. x && y) (eq-eqb a.0 a.0 refl) (ap₂ (λ x y. x && y) (eq-eqb a.1 a.1 refl) (arms_self p))
 
-arms_are : (p q : List InnerArm) → same_arms p q ≡ true → p ≡ q
-arms_are [] [] e = refl
-arms_are [] (c ∷ q) e = absurd (cc)
-arms_are (a ∷ p) [] e = absurd (cc)
-arms_are (a ∷ p) (c ∷ q) e =
-    let x = and_parts (a.0 == c.0) (a.1 == c.1 && same_arms p q) e in
-    let y = and_parts (a.1 == c.1) (same_arms p q) x.1 in
-    λ i. (eqb-true a.0 c.0 x.0 i, eqb-true a.1 c.1 y.0 i) ∷ arms_are p q y.1 i
-
 -- ---- clock names of the variables that a list binds
 
 abbrev names_here : List InnerArm → ℕ → List Variable → List Named
@@ -95,11 +87,6 @@ names_here p k [] = []
 names_here p k (v ∷ vs) = if same_arms v.list p then kinds.Clock k ∷ names_here p (suc k) vs else names_here p (suc k) vs
 
 -- such a name is of a variable that the list binds
-record Bound (vs : List Variable) (p : List InnerArm) (i : ℕ) : Type 0 where
-  pub place : ℕ
-  pub at' : i ≡ place
-  pub list : list_at vs place ≡ p
-
 here_if : (c : Bool) (x k m r : ℕ) (p : List InnerArm) (ns : List Named) (P : Type 0) → (c ≡ true → k ≡ x → P) → ((m : ℕ) → clock_name x ns m ≡ Some r → P)
     → clock_name x (if c then kinds.Clock k ∷ ns else ns) m ≡ Some r → P
 here_if true x k m r p ns P f g e = by_case (x == k) refl e
@@ -140,10 +127,6 @@ here_listed p (u ∷ vs) k (suc j) v e f =
     there_if (same_arms u.list p) (k + suc j) k (names_here p (suc k) vs) (subst (λ i. list_any (is_clock_of i) (names_here p (suc k) vs) ≡ true) z (here_listed p vs (suc k) j v e f))
 
 -- ---- lists of keys
-
-abbrev or_key : ℕ × Place → Option (ℕ × Place) → ℕ × Place
-or_key z (Some x) = x
-or_key z None = z
 
 record Same (vs : List Variable) (k : ℕ) (l : Place) : Type 0 where
   pub variable : Variable
