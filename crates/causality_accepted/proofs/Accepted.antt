@@ -1,5 +1,5 @@
 -- The definitions of a file whose scope, types and clocks are judged.
-use Rattle.std.specs.Prelude.{◌≡◌, refl, ℕ, zero, suc, List, [], ◌∷◌, ◌++◌, map, Option, None}
+use Rattle.std.specs.Prelude.{◌≡◌, refl, ℕ, zero, suc, List, [], ◌∷◌, ◌++◌, map, Option, ◌<◌, true, false, Some}
 use Rattle.std.proofs.Common.{ap, sym, ◌∙◌, subst}
 use Rattle.ls_ast.specs.declared.tree.BodyOf.{BodyOf}
 use Rattle.ls_ast.specs.declared.tree.DefOf.{DefOf}
@@ -14,16 +14,13 @@ use Rattle.ls_sig.specs.declared.binder.Note.{Note}
 use Rattle.ls_sig.specs.declared.binder.TypeNote.{TypeNote}
 use Rattle.ls_sig.specs.declared.env.Env.{Env}
 use Rattle.ls_sig.specs.declared.sigs.Item.{Item}
-use Rattle.ls_sig.specs.declared.sigs.Sig.{Sig}
 use Rattle.ls_places.specs.Clocks.{or_else}
 use Rattle.ls_places.specs.Definitions.{case_place, constructor_place, definition_of, definitions, place_in}
+use Rattle.ls_places.specs.Search.{nth}
 use Rattle.ls_places.specs.declared.definition.Definition.{Definition}
 use Rattle.tree_notes.specs.Each.{Each}
 use Rattle.tree_notes.specs.Noted as T
 use Rattle.tree_notes.specs.Noted.{in_definition}
-use Rattle.scope_rules.specs.After.{scope_fault, resolved}
-use Rattle.type_rules.specs.Files as types
-use Rattle.type_rules.specs.Files.{LetOf, in_place}
 use Rattle.clock_rules.specs.declared.scheme.ClockScheme.{ClockScheme}
 use Rattle.clock_rules.specs.Files as clocks
 use Rattle.clock_rules.specs.Files.{scheme}
@@ -33,14 +30,22 @@ use Rattle.clock_rules.proofs.Sides.{all_both}
 use Rattle.clock_laws.specs.Scoped.{IsScoped, IsWell}
 use Rattle.clock_laws.proofs.Schemes.{is_well}
 use Rattle.clock_premises.proofs.Files.{EachFromScope, FromScope, files_resolved, resolved_scoped}
-use Rattle.kahn_model.specs.Causality.{AllCausal}
-use Rattle.kahn_model.specs.Reads.{Shape}
+use Rattle.kahn_model.specs.Causality.{AllCausal, ArgTo, AroundTo, Nests, Sound, SoundBody}
+use Rattle.kahn_model.specs.Fullness.{All, Full}
+use Rattle.kahn_model.specs.Functions.{Arg, Around}
+use Rattle.kahn_model.specs.Reads.{Shape, shapes_of}
+use Rattle.kahn_model.specs.Rows.{IsKnown}
+use Rattle.kahn_model.specs.Table.{meaning, network, table_of}
+use Rattle.kahn_model.proofs.AnyShapes.{sound_by_nesting}
+use Rattle.kahn_model.proofs.Depth.{SoundAt, calls_known, meaning_known, table_full}
+use Rattle.kahn_model.proofs.Knowing.{some_known}
+use Rattle.kahn_model.proofs.Solutions.{meaning_monotone}
 use Rattle.causality_rules.specs.Files.{AllRanked, lets}
 use Rattle.causality_links.specs.Close.{Close, Scoped}
 use Rattle.causality_links.proofs.Files.{file_is_causal}
 use Rattle.causality_premises.specs.Premises.{ClocksKnown}
 use Rattle.causality_premises.proofs.Scope.{reads_scoped}
-use Rattle.causality_accepted.specs.Laws.{IsJudged}
+use Rattle.causality_accepted.specs.Laws.{IsAccepted, IsJudged}
 use Rattle.causality_accepted.proofs.Moved as M
 use Rattle.causality_accepted.proofs.Moved.{NodeUsed, each_nth, each_zip}
 use Rattle.causality_accepted.proofs.Used as Us
@@ -126,20 +131,35 @@ cases_at tree (suc (suc x)) = constructors_same (suc (suc x)) tree
 cases_same : (tree : List (DefOf Note)) → case_place (map (in_definition Note TypeNote erase) tree) ≡ case_place tree
 cases_same tree = λ i x. cases_at tree x i
 
-pub accepted_is_causal : (case_type : ℕ → Option TypeTerm) (limit : ℕ) (file : FileOf Plain) (annotated : List (LetOf TypeNote)) (sigs : List Sig) (typed : List (DefOf TypeNote)) (tree : List (DefOf Note)) (ranks : List (List (Item × ℕ)))
-    → scope_fault empty file ≡ None
-    → types.Judged case_type limit [] (types.lets (resolved empty file).defs) annotated sigs → typed ≡ in_place (resolved empty file).defs annotated
-    → map (in_definition Note TypeNote erase) tree ≡ typed → clocks.Judged (case_place typed) [] tree
-    → AllRanked (lets (case_place tree) tree) ranks
-    → AllCausal (definitions (case_place tree) tree)
-accepted_is_causal case_type limit file annotated sigs typed tree ranks scope typing typed_as same clocking ranked =
-    judged_is_causal case_type limit (case_place tree) empty file [] tree (record {
-      annotated = annotated;
-      sigs = sigs;
-      scope = scope;
-      types = typing;
-      noted = same ∙ typed_as;
-      clocks = subst (λ z. clocks.Judged z [] tree) (ap case_place (sym same) ∙ cases_same tree) clocking;
-      schemes_of = tt;
-      well = tt;
-    }) ranks ranked
+module _ (case_type : ℕ → Option TypeTerm) (limit : ℕ) (file : FileOf Plain) (tree : List (DefOf Note)) (ranks : List (List (Item × ℕ))) (j : IsAccepted case_type limit file tree ranks) where
+  abbrev cases : ℕ → Option ℕ
+  cases = case_place tree
+
+  abbrev defs : List Definition
+  defs = definitions cases tree
+
+  pub accepted_is_causal : AllCausal defs
+  accepted_is_causal =
+      judged_is_causal case_type limit cases empty file [] tree (record {
+        annotated = j.annotated;
+        sigs = j.sigs;
+        scope = j.scope;
+        types = j.types;
+        noted = j.noted ∙ j.typed_as;
+        clocks = subst (λ z. clocks.Judged z [] tree) (ap case_place (sym j.noted) ∙ cases_same tree) j.clocks;
+        schemes_of = tt;
+        well = tt;
+      }) ranks j.ranked
+
+  pub tables_are_full : (n depth k : ℕ) (d : Definition) (a : Around) → nth defs k ≡ Some d → Nests defs (suc depth) k (shapes_of a.args) → ((i : ℕ) → i < n → AroundTo i a)
+      → Full (table_of cases defs n (meaning cases defs n depth) d a)
+  tables_are_full n depth k d a e nests around =
+      let sound : SoundBody (Sound defs depth) (Some d) (shapes_of a.args) =
+      subst (λ o. SoundBody (Sound defs depth) o (shapes_of a.args)) e (sound_by_nesting defs accepted_is_causal (suc depth) k (shapes_of a.args) nests) in
+      table_full cases defs n (meaning cases defs n depth) (meaning_monotone cases defs n depth) (SoundAt cases defs n depth) d a sound.0 sound.1 around
+      (λ i b. calls_known cases defs n depth i b)
+
+  pub results_are_known : (n k : ℕ) (args : List Arg) (i : ℕ) → i < n → Nests defs 201 k (shapes_of args) → All (ArgTo i) args → IsKnown (network cases defs n k args i)
+  results_are_known n k args i l nests known = meaning_known cases defs n 201 k
+      (record { active = λ i. Some true; again = λ i. Some false; clocks = λ w i. Some true; args = args }) i l (sound_by_nesting defs accepted_is_causal 201 k (shapes_of args) nests)
+      (record { active = λ j b. some_known true; again = λ j b. some_known false; clocks = λ w j b. some_known true; args = known })
