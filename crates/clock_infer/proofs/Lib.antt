@@ -1,0 +1,6 @@
+pub mod Casing
+pub mod Filing
+pub mod Firsts
+pub mod Judging
+pub mod Putting
+pub mod Small

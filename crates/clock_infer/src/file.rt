@@ -1,0 +1,174 @@
+//! The clocks of a file.
+
+ghost use Rattle.std.specs.Prelude.{◌≡◌, [], map, IfOk, IfSome, IfNone, IsErrOf, OnOk};
+ghost use Rattle.clock_infer.specs.Cases.{place_at};
+ghost use Rattle.clock_infer.specs.Filed as spec;
+ghost use Rattle.clock_rules.specs.Files.{FirstIllClocked, Judged, scheme_of};
+ghost use Rattle.clock_infer.specs.declared.file.ClockFault.TheVariants.{IllClocked};
+ghost use Rattle.clock_rules.specs.Fresh.{erase};
+ghost use Rattle.ls_places.specs.Definitions.{case_place};
+ghost use Rattle.ls_sig.specs.declared.binder.Note.{Note};
+ghost use Rattle.ls_sig.specs.declared.binder.TypeNote.{TypeNote};
+ghost use Rattle.tree_notes.specs.Noted.{in_definition};
+
+use crate::cases::Cases;
+use crate::definition::{Clocked, clock_definition};
+use crate::schemes::{scheme, schemes_of};
+use clock_rules::ClockScheme;
+use ls_ast::{DefOf, FileOf};
+use ls_base::{Line, List, NoMemory, NoteCopy};
+use ls_sig::{Ann, Env, Note, TypeNote, Typed};
+use std::alloc::Global;
+
+/// Why a file has no clocks.
+#[derive(Clone, Copy, Debug, PartialEq, Eq)]
+pub enum ClockFault {
+    /// No annotation of the definition at this line obeys the rules.
+    IllClocked(Line),
+    NoMemory,
+}
+
+impl From<NoMemory> for ClockFault {
+    ghost use Rattle.std.specs.Prelude.{◌≡◌};
+    ghost use Rattle.clock_infer.specs.declared.file.ClockFault.TheVariants.{NoMemory as OutOfMemory};
+
+    ghost from_gives = { λ _ e. e ≡ OutOfMemory };
+
+    fn from(_error: NoMemory) -> ClockFault {
+        ClockFault::NoMemory
+    }
+}
+
+/// The definitions so far, and the schemes of all before the next one.
+#[derive(Drop)]
+struct SoFar {
+    defs: List<DefOf<Note>>,
+    schemes: List<ClockScheme>,
+}
+
+/// A definition with its clocks; none where no annotation obeys the rules.
+fn clock_one(
+    alloc: Global,
+    cases: &Cases,
+    schemes: &[ClockScheme],
+    def: &DefOf<TypeNote>,
+) -> Result<Option<DefOf<Note>>, NoMemory>
+    ensures clocked { IfOk result (λ r. IfSome r (λ n. spec.IsClockedAs (place_at cases.now.places.list) schemes.now def.now n)) }
+    ensures ill { IfOk result (λ r. IfNone r (spec.IsIll (place_at cases.now.places.list) schemes.now def.now)) }
+{
+    match def {
+        DefOf::Cases {
+            line,
+            name,
+            cases: all,
+        } => Ok(Some(DefOf::Cases {
+            line: *line,
+            name: *name,
+            cases: all.copy(alloc)?,
+        })),
+        DefOf::Let {
+            line,
+            node,
+            name,
+            params,
+            marks,
+            notes,
+            body,
+        } => match clock_definition(alloc, schemes, cases, params, marks, notes.as_slice(), body)? {
+            None => Ok(None),
+            Some(clocked) => {
+                let Clocked { notes, body } = clocked;
+                Ok(Some(DefOf::Let {
+                    line: *line,
+                    node: *node,
+                    name: *name,
+                    params: params.copy(alloc)?,
+                    marks: marks.copy(alloc)?,
+                    notes,
+                    body,
+                }))
+            }
+        },
+    }
+}
+
+/// Adds the scheme of a definition.
+fn add_scheme(
+    alloc: Global,
+    def: &DefOf<Note>,
+    schemes: &mut List<ClockScheme>,
+) -> Result<(), NoMemory>
+    ensures { OnOk result (schemes.new ≡ spec.schemes_after schemes.old def.now) }
+{
+    match def {
+        DefOf::Cases { .. } => Ok(()),
+        DefOf::Let {
+            marks,
+            notes,
+            body,
+            ..
+        } => schemes.push(scheme(alloc, marks, notes.as_slice(), &body.result.note.ck)?),
+    }
+}
+
+fn line_of(def: &DefOf<TypeNote>) -> Line
+    ensures { result ≡ spec.line_of def.now }
+{
+    match def {
+        DefOf::Cases { line, .. } => *line,
+        DefOf::Let { line, .. } => *line,
+    }
+}
+
+/// The definitions with their clocks, behind others with these schemes.
+fn clock_all(
+    alloc: Global,
+    cases: &Cases,
+    schemes: List<ClockScheme>,
+    all: &[DefOf<TypeNote>],
+) -> Result<List<DefOf<Note>>, ClockFault>
+    ensures clocked { IfOk result (λ r. spec.AreClockedAs (place_at cases.now.places.list) schemes all.now r) }
+    ensures ill { IsErrOf result IllClocked (λ line. FirstIllClocked (place_at cases.now.places.list) schemes all.now line.0) }
+{
+    let mut so_far = SoFar {
+        defs: List::new(alloc),
+        schemes,
+    };
+    for def in all {
+        match clock_one(alloc, cases, so_far.schemes.as_slice(), def)? {
+            None => return Err(ClockFault::IllClocked(line_of(def))),
+            Some(clocked) => {
+                add_scheme(alloc, &clocked, &mut so_far.schemes)?;
+                so_far.defs.push(clocked)?;
+            }
+        }
+    }
+    let SoFar { defs, .. } = so_far;
+    Ok(defs)
+}
+
+/// The clocks of a file behind an environment: each definition is annotated principally, over the
+/// schemes of those before it, or the first that none obeys is told.
+pub fn infer_clocks_after(alloc: Global, env: &Env, file: &Typed) -> Result<Ann, ClockFault>
+    ensures same { IfOk result (λ ann. map (λ d. in_definition Note TypeNote erase d) ann.defs ≡ file.now.defs) }
+    ensures names { IfOk result (λ ann. ann.names ≡ file.now.names) }
+    ensures principal { IfOk result (λ ann. Judged (case_place file.now.defs) (map scheme_of env.now.sigs) ann.defs) }
+    ensures refused { IsErrOf result IllClocked (λ line. FirstIllClocked (case_place file.now.defs) (map scheme_of env.now.sigs) file.now.defs line.0) }
+{
+    let cases = Cases::new(alloc, file.defs.as_slice())?;
+    let schemes = schemes_of(alloc, env.sigs.as_slice())?;
+    let names = file.names.copy(alloc)?;
+    let defs = clock_all(alloc, &cases, schemes, file.defs.as_slice())?;
+    Ok(FileOf { defs, names })
+}
+
+/// The clocks of a file behind nothing.
+pub fn infer_clocks(alloc: Global, file: &Typed) -> Result<Ann, ClockFault>
+    ensures same { IfOk result (λ ann. map (λ d. in_definition Note TypeNote erase d) ann.defs ≡ file.now.defs) }
+    ensures names { IfOk result (λ ann. ann.names ≡ file.now.names) }
+    ensures principal { IfOk result (λ ann. Judged (case_place file.now.defs) [] ann.defs) }
+    ensures refused { IsErrOf result IllClocked (λ line. FirstIllClocked (case_place file.now.defs) [] file.now.defs line.0) }
+{
+    let env = Env::empty(alloc)?;
+    infer_clocks_after(alloc, &env, file)
+}

@@ -1,0 +1,13 @@
+//! Inference of clocks: the principal annotation of a definition, or that none obeys the rules.
+#![tactic(auto)]
+
+mod cases;
+mod definition;
+mod file;
+mod nodes;
+mod puts;
+mod schemes;
+
+pub use definition::{Clocked, clock_definition};
+pub use file::{ClockFault, infer_clocks, infer_clocks_after};
+pub use schemes::{scheme, schemes_of};
