@@ -1,5 +1,5 @@
 -- Definitions with clocks, one after the other.
-use Rattle.std.specs.Prelude.{◌≡◌, refl, ℕ, zero, suc, ◌+◌, ◌<◌, List, [], ◌∷◌, ◌++◌, map, length, Option}
+use Rattle.std.specs.Prelude.{◌≡◌, refl, ℕ, zero, suc, ◌+◌, ◌<◌, Bool, List, [], ◌∷◌, ◌++◌, map, length, Option}
 use Rattle.std.proofs.Common.{ap, ap₂, sym, ◌∙◌, subst, arith, inl, inr, drop, get_or}
 use Rattle.std.proofs.lemmas.List.{append-nil}
 use Rattle.ls_ast.specs.declared.tree.BodyOf.{BodyOf}
@@ -16,8 +16,34 @@ use Rattle.tree_notes.specs.Noted.{in_body, in_definition}
 use Rattle.clock_rules.specs.declared.scheme.ClockScheme.{ClockScheme}
 use Rattle.clock_rules.specs.Files.{FirstIllClocked, HasPrincipal, Judged}
 use Rattle.clock_rules.specs.Fresh.{erase}
-use Rattle.clock_rules.specs.Judged.{IsPrincipal}
+use Rattle.clock_rules.specs.Judged.{IsPrincipal, NoneObeys}
+use Rattle.ls_places.specs.Definitions.{case_place}
+use Rattle.clock_infer.proofs.Casing.{cases_are}
+use Rattle.clock_infer.specs.Cases.{place_at, places}
 use Rattle.clock_infer.specs.Filed.{AreClockedAs, IsAnnotated, IsClockedAs, IsIll, line_of, schemes_after}
+
+-- ---- one definition
+
+module _ (cases : ℕ → Option ℕ) (schemes : List ClockScheme) (def : DefOf TypeNote) where
+  pub cased : (line : Line) (name : Name) (all copied : List Name) → def ≡ item.Cases line name all → copied ≡ all → IsClockedAs cases schemes def (item.Cases line name copied)
+  cased line name all copied is same = subst (λ z. IsClockedAs cases schemes z (item.Cases line name copied)) (sym is) (ap (item.Cases line name) same)
+
+  module _ (line : Line) (node : Bool) (name : Name) (params : List Pat) (marks : List Mark) (types seen : List TypeNote) (tree : BodyOf TypeNote)
+      (is : def ≡ item.Let line node name params marks types tree) (same : seen ≡ types) where
+    pub annotated : (ps : List Pat) (ms : List Mark) (notes : List Note) (body : BodyOf Note) → ps ≡ params → ms ≡ marks → IsPrincipal schemes cases params marks seen tree notes body
+        → IsClockedAs cases schemes def (item.Let line node name ps ms notes body)
+    annotated ps ms notes body p m h =
+        subst (λ z. IsClockedAs cases schemes z (item.Let line node name ps ms notes body)) (sym is) (record {
+          notes = notes;
+          body = body;
+          is = λ i. item.Let line node name (p i) (m i) notes body;
+          principal = subst (λ ts. IsPrincipal schemes cases params marks ts tree notes body) same h;
+        })
+
+    pub ill : NoneObeys schemes cases params marks seen tree → IsIll cases schemes def
+    ill h = subst (IsIll cases schemes) (sym is) (subst (λ ts. NoneObeys schemes cases params marks ts tree) same h)
+
+-- ---- one after the other
 
 append_one : {A : Type 0} (xs : List A) (x : A) (ys : List A) → xs ++ (x ∷ ys) ≡ (xs ++ x ∷ []) ++ ys
 append_one [] x ys = refl
@@ -89,3 +115,15 @@ module _ (cases : ℕ → Option ℕ) where
         own schemes params marks types tree h.0.notes h.0.body h.0.principal,
         judged (schemes_after schemes (item.Let line node name params marks h.0.notes h.0.body)) ds ns (subst (λ z. AreClockedAs cases (schemes_after schemes z) ds ns) h.0.is h.1),
       )
+
+-- ---- a file, by its constructors
+
+module _ (list : List (ℕ × ℕ)) (ds all : List (DefOf TypeNote)) (named : list ≡ places ds) (same : all ≡ ds) (schemes seen : List ClockScheme) (schemes_are : seen ≡ schemes) where
+  table : place_at list ≡ case_place ds
+  table = cases_are list ds named
+
+  pub file_clocked : (ns : List (DefOf Note)) → AreClockedAs (place_at list) seen all ns → AreClockedAs (case_place ds) schemes ds ns
+  file_clocked ns h = subst (λ z. AreClockedAs z schemes ds ns) table (subst (λ z. AreClockedAs (place_at list) z ds ns) schemes_are (subst (λ z. AreClockedAs (place_at list) seen z ns) same h))
+
+  pub file_ill : (at : ℕ) → FirstIllClocked (place_at list) seen all at → FirstIllClocked (case_place ds) schemes ds at
+  file_ill at h = subst (λ z. FirstIllClocked z schemes ds at) table (subst (λ z. FirstIllClocked (place_at list) z ds at) schemes_are (subst (λ z. FirstIllClocked (place_at list) seen z at) same h))

@@ -9,6 +9,7 @@ use Rattle.ls_terms.specs.declared.clocks.ClockTerm.{ClockTerm, fold-roll-ClockT
 use Rattle.ls_terms.specs.declared.clocks.ClockTerm.TheOpen.{ClockTerm-F}
 use Rattle.ls_terms.specs.Clocks.{apply, apply_at, kids_at, size, stands, sum}
 use Rattle.ls_places.specs.Search.{nth}
+use Rattle.ls_places.specs.declared.places.Places.{Places}
 use Rattle.ls_sig.specs.declared.binder.Note.{Note}
 use Rattle.ls_sig.specs.declared.binder.TypeNote.{TypeNote}
 use Rattle.term_unify.specs.Terms.{first}
@@ -145,6 +146,13 @@ module _ (sigs : List ClockScheme) (cases : ℕ → Option ℕ) (params : List P
     clocks = record { vars = P.vars i; blocks = P.blocks i };
     given = (given_vars sigs (nodes_of Note function (P.places i).exprs) (P.next i)).0;
   }
+
+  -- a clock for each variable, and for each clock name that is no parameter
+  pub many_vars : length p.vars ≡ length p.index.places.vars
+  many_vars = ap length P.vars ∙ (Inf.formed sigs cases params marks types tree).many_vars ∙ ap (λ (z : Places Note). length z.vars) (sym P.places)
+
+  pub many_blocks : length p.blocks ≡ length p.index.places.names
+  many_blocks = ap length P.blocks ∙ (Inf.formed sigs cases params marks types tree).many_blocks ∙ ap (λ (z : Places Note). length z.names) (sym P.places)
 
   -- where nothing makes the pairs equal no annotation obeys
   pub none_unsolved : IsUnsolvable (pairs sigs cases marks p) → NoneObeys sigs cases params marks types tree

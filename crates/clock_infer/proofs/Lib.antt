@@ -4,3 +4,4 @@ pub mod Firsts
 pub mod Judging
 pub mod Putting
 pub mod Small
+pub mod Solving

@@ -11,6 +11,8 @@ use Rattle.ls_sig.specs.declared.binder.TypeNote.{TypeNote}
 use Rattle.clock_rules.specs.declared.scheme.ClockScheme.{ClockScheme}
 use Rattle.clock_rules.specs.Files.{scheme}
 use Rattle.clock_rules.specs.Judged.{IsPrincipal, NoneObeys}
+use Rattle.clock_infer.specs.declared.file.ClockFault.{ClockFault}
+use Rattle.clock_infer.specs.declared.file.ClockFault.TheVariants as fault
 
 abbrev pub line_of : DefOf TypeNote → Line
 line_of (item.Cases line name all) = line
@@ -44,3 +46,8 @@ module _ (cases : ℕ → Option ℕ) where
   AreClockedAs schemes [] (n ∷ ns) = ⊥
   AreClockedAs schemes (d ∷ ds) [] = ⊥
   AreClockedAs schemes (d ∷ ds) (n ∷ ns) = IsClockedAs schemes d n × AreClockedAs (schemes_after schemes n) ds ns
+
+-- of a fault that is at a line
+abbrev pub AtLine : ClockFault → (ℕ → Type 0) → Type 0
+AtLine (fault.IllClocked line) P = P line.0
+AtLine fault.NoMemory P = Unit {0}

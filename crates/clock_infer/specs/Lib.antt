@@ -3,3 +3,4 @@ pub mod Filed
 pub mod Nodes
 pub mod Prepared
 pub mod Schemes
+pub mod Signatures

@@ -1,10 +1,9 @@
 //! The clocks of a file.
 
-ghost use Rattle.std.specs.Prelude.{◌≡◌, [], map, IfOk, IfSome, IfNone, IsErrOf, OnOk};
+ghost use Rattle.std.specs.Prelude.{◌≡◌, [], map, IfOk, IfErr, IfSome, IfNone};
 ghost use Rattle.clock_infer.specs.Cases.{place_at};
 ghost use Rattle.clock_infer.specs.Filed as spec;
 ghost use Rattle.clock_rules.specs.Files.{FirstIllClocked, Judged, scheme_of};
-ghost use Rattle.clock_infer.specs.declared.file.ClockFault.TheVariants.{IllClocked};
 ghost use Rattle.clock_rules.specs.Fresh.{erase};
 ghost use Rattle.ls_places.specs.Definitions.{case_place};
 ghost use Rattle.ls_sig.specs.declared.binder.Note.{Note};
@@ -13,26 +12,30 @@ ghost use Rattle.tree_notes.specs.Noted.{in_definition};
 
 use crate::cases::Cases;
 use crate::definition::{Clocked, clock_definition};
-use crate::schemes::{scheme, schemes_of};
+use crate::schemes::{add_scheme, schemes_of};
 use clock_rules::ClockScheme;
 use ls_ast::{DefOf, FileOf};
 use ls_base::{Line, List, NoMemory, NoteCopy};
 use ls_sig::{Ann, Env, Note, TypeNote, Typed};
 use std::alloc::Global;
+use thiserror::Error;
 
 /// Why a file has no clocks.
-#[derive(Clone, Copy, Debug, PartialEq, Eq)]
+#[derive(Clone, Copy, Debug, PartialEq, Eq, Error)]
 pub enum ClockFault {
-    /// No annotation of the definition at this line obeys the rules.
+    /// No clocks obey the rules in the definition that begins on this line, the first such one.
+    #[error("a definition is not well clocked")]
     IllClocked(Line),
+    /// A block of memory was refused, or variables would have too great numbers.
+    #[error("out of memory")]
     NoMemory,
 }
 
 impl From<NoMemory> for ClockFault {
     ghost use Rattle.std.specs.Prelude.{◌≡◌};
-    ghost use Rattle.clock_infer.specs.declared.file.ClockFault.TheVariants.{NoMemory as OutOfMemory};
+    ghost use Rattle.clock_infer.specs.declared.file.ClockFault.{ClockFault};
 
-    ghost from_gives = { λ _ e. e ≡ OutOfMemory };
+    ghost from_gives = { λ error fault. fault ≡ ClockFault.NoMemory };
 
     fn from(_error: NoMemory) -> ClockFault {
         ClockFault::NoMemory
@@ -92,25 +95,6 @@ fn clock_one(
     }
 }
 
-/// Adds the scheme of a definition.
-fn add_scheme(
-    alloc: Global,
-    def: &DefOf<Note>,
-    schemes: &mut List<ClockScheme>,
-) -> Result<(), NoMemory>
-    ensures { OnOk result (schemes.new ≡ spec.schemes_after schemes.old def.now) }
-{
-    match def {
-        DefOf::Cases { .. } => Ok(()),
-        DefOf::Let {
-            marks,
-            notes,
-            body,
-            ..
-        } => schemes.push(scheme(alloc, marks, notes.as_slice(), &body.result.note.ck)?),
-    }
-}
-
 fn line_of(def: &DefOf<TypeNote>) -> Line
     ensures { result ≡ spec.line_of def.now }
 {
@@ -128,7 +112,7 @@ fn clock_all(
     all: &[DefOf<TypeNote>],
 ) -> Result<List<DefOf<Note>>, ClockFault>
     ensures clocked { IfOk result (λ r. spec.AreClockedAs (place_at cases.now.places.list) schemes all.now r) }
-    ensures ill { IsErrOf result IllClocked (λ line. FirstIllClocked (place_at cases.now.places.list) schemes all.now line.0) }
+    ensures ill { IfErr result (λ f. spec.AtLine f (FirstIllClocked (place_at cases.now.places.list) schemes all.now)) }
 {
     let mut so_far = SoFar {
         defs: List::new(alloc),
@@ -153,7 +137,7 @@ pub fn infer_clocks_after(alloc: Global, env: &Env, file: &Typed) -> Result<Ann,
     ensures same { IfOk result (λ ann. map (λ d. in_definition Note TypeNote erase d) ann.defs ≡ file.now.defs) }
     ensures names { IfOk result (λ ann. ann.names ≡ file.now.names) }
     ensures principal { IfOk result (λ ann. Judged (case_place file.now.defs) (map scheme_of env.now.sigs) ann.defs) }
-    ensures refused { IsErrOf result IllClocked (λ line. FirstIllClocked (case_place file.now.defs) (map scheme_of env.now.sigs) file.now.defs line.0) }
+    ensures refused { IfErr result (λ f. spec.AtLine f (FirstIllClocked (case_place file.now.defs) (map scheme_of env.now.sigs) file.now.defs)) }
 {
     let cases = Cases::new(alloc, file.defs.as_slice())?;
     let schemes = schemes_of(alloc, env.sigs.as_slice())?;
@@ -167,7 +151,7 @@ pub fn infer_clocks(alloc: Global, file: &Typed) -> Result<Ann, ClockFault>
     ensures same { IfOk result (λ ann. map (λ d. in_definition Note TypeNote erase d) ann.defs ≡ file.now.defs) }
     ensures names { IfOk result (λ ann. ann.names ≡ file.now.names) }
     ensures principal { IfOk result (λ ann. Judged (case_place file.now.defs) [] ann.defs) }
-    ensures refused { IsErrOf result IllClocked (λ line. FirstIllClocked (case_place file.now.defs) [] file.now.defs line.0) }
+    ensures refused { IfErr result (λ f. spec.AtLine f (FirstIllClocked (case_place file.now.defs) [] file.now.defs)) }
 {
     let env = Env::empty(alloc)?;
     infer_clocks_after(alloc, &env, file)

@@ -1,6 +1,7 @@
 //! Clock schemes of annotated definitions.
 
 ghost use Rattle.std.specs.Prelude.{◌≡◌, ◌++◌, ◌∷◌, [], map, IfOk, OnOk};
+ghost use Rattle.clock_infer.specs.Filed as filed;
 ghost use Rattle.clock_infer.specs.Schemes as spec;
 ghost use Rattle.clock_rules.specs.Files as files;
 ghost use Rattle.clock_rules.specs.Rules as rules;
@@ -11,7 +12,7 @@ ghost use Rattle.tree_notes.specs.Order.{joined};
 use crate::nodes::Put;
 use crate::puts::put_clocks;
 use clock_rules::ClockScheme;
-use ls_ast::Mark;
+use ls_ast::{DefOf, Mark};
 use ls_base::{List, NoMemory, NoteCopy};
 use ls_sig::{Note, Sig};
 use ls_terms::ClockTerm;
@@ -128,6 +129,25 @@ pub fn scheme(
         result: ck.put(alloc, &by)?,
         names: clock_marks(alloc, marks)?,
     })
+}
+
+/// Adds the scheme of a definition.
+pub fn add_scheme(
+    alloc: Global,
+    def: &DefOf<Note>,
+    schemes: &mut List<ClockScheme>,
+) -> Result<(), NoMemory>
+    ensures { OnOk result (schemes.new ≡ filed.schemes_after schemes.old def.now) }
+{
+    match def {
+        DefOf::Cases { .. } => Ok(()),
+        DefOf::Let {
+            marks,
+            notes,
+            body,
+            ..
+        } => schemes.push(scheme(alloc, marks, notes.as_slice(), &body.result.note.ck)?),
+    }
 }
 
 fn scheme_of(alloc: Global, sig: &Sig) -> Result<ClockScheme, NoMemory>
