@@ -5,7 +5,7 @@ use Rattle.ls_ast.specs.declared.tree.DefOf.TheVariants as item
 use Rattle.ls_sig.specs.declared.binder.Note.{Note}
 use Rattle.ls_sig.specs.declared.sigs.Sig.{Sig}
 use Rattle.clock_rules.specs.declared.scheme.ClockScheme.{ClockScheme}
-use Rattle.clock_rules.specs.Files.{scheme}
+use Rattle.clock_rules.specs.Files.{scheme, with_scheme}
 
 -- the schemes of the `let` definitions, in order
 abbrev pub schemes_in : List (DefOf Note) → List ClockScheme
@@ -13,14 +13,7 @@ schemes_in [] = []
 schemes_in (item.Cases line name all ∷ ds) = schemes_in ds
 schemes_in (item.Let line node name params marks notes body ∷ ds) = scheme marks notes body.result.note.ck ∷ schemes_in ds
 
--- a signature with the clocks of a scheme
-abbrev pub with_scheme : Sig → ClockScheme → Sig
-with_scheme s k = record s { clocks = k.clocks; result_clock = k.result; clock_names = k.names }
-
+-- a signature for each scheme, with its clocks
 abbrev pub with_each : List Sig → List ClockScheme → List Sig
 with_each (s ∷ ss) (k ∷ ks) = with_scheme s k ∷ with_each ss ks
 with_each _ _ = []
-
--- a signature for each `let`, with the clocks of its annotation
-abbrev pub with_schemes : List Sig → List (DefOf Note) → List Sig
-with_schemes sigs defs = with_each sigs (schemes_in defs)

@@ -1,7 +1,6 @@
 //! The clocks of a file.
 
 ghost use Rattle.std.specs.Prelude.{◌≡◌, [], map, IfOk, IfErr, IfSome, IfNone};
-ghost use Rattle.clock_infer.specs.Cases.{place_at};
 ghost use Rattle.clock_infer.specs.Filed as spec;
 ghost use Rattle.clock_rules.specs.Files.{FirstIllClocked, Judged, scheme_of};
 ghost use Rattle.clock_rules.specs.Fresh.{erase};
@@ -16,6 +15,7 @@ use crate::schemes::{add_scheme, schemes_of};
 use clock_rules::ClockScheme;
 use ls_ast::{DefOf, FileOf};
 use ls_base::{Line, List, NoMemory, NoteCopy};
+use ls_places::CasePlaces;
 use ls_sig::{Ann, Env, Note, TypeNote, Typed};
 use std::alloc::Global;
 use thiserror::Error;
@@ -50,14 +50,14 @@ struct SoFar {
 }
 
 /// A definition with its clocks; none where no annotation obeys the rules.
-fn clock_one(
+fn clock_one<C: CasePlaces>(
     alloc: Global,
-    cases: &Cases,
+    cases: &C,
     schemes: &[ClockScheme],
     def: &DefOf<TypeNote>,
 ) -> Result<Option<DefOf<Note>>, NoMemory>
-    ensures clocked { IfOk result (λ r. IfSome r (λ n. spec.IsClockedAs (place_at cases.now.places.list) schemes.now def.now n)) }
-    ensures ill { IfOk result (λ r. IfNone r (spec.IsIll (place_at cases.now.places.list) schemes.now def.now)) }
+    ensures clocked { IfOk result (λ r. IfSome r (λ n. spec.IsClockedAs (C.place cases.now) schemes.now def.now n)) }
+    ensures ill { IfOk result (λ r. IfNone r (spec.IsIll (C.place cases.now) schemes.now def.now)) }
 {
     match def {
         DefOf::Cases {
@@ -105,14 +105,14 @@ fn line_of(def: &DefOf<TypeNote>) -> Line
 }
 
 /// The definitions with their clocks, behind others with these schemes.
-fn clock_all(
+fn clock_all<C: CasePlaces>(
     alloc: Global,
-    cases: &Cases,
+    cases: &C,
     schemes: List<ClockScheme>,
     all: &[DefOf<TypeNote>],
 ) -> Result<List<DefOf<Note>>, ClockFault>
-    ensures clocked { IfOk result (λ r. spec.AreClockedAs (place_at cases.now.places.list) schemes all.now r) }
-    ensures ill { IfErr result (λ f. spec.AtLine f (FirstIllClocked (place_at cases.now.places.list) schemes all.now)) }
+    ensures clocked { IfOk result (λ r. spec.AreClockedAs (C.place cases.now) schemes all.now r) }
+    ensures ill { IfErr result (λ f. spec.AtLine f (FirstIllClocked (C.place cases.now) schemes all.now)) }
 {
     let mut so_far = SoFar {
         defs: List::new(alloc),

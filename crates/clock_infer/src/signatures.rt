@@ -2,6 +2,7 @@
 
 ghost use Rattle.std.specs.Prelude.{◌≡◌, IfOk};
 ghost use Rattle.clock_infer.specs.Signatures as spec;
+ghost use Rattle.clock_rules.specs.Files as files;
 
 use crate::schemes::add_scheme;
 use clock_rules::ClockScheme;
@@ -22,7 +23,7 @@ fn schemes_in(alloc: Global, all: &[DefOf<Note>]) -> Result<List<ClockScheme>, N
 }
 
 fn with_scheme(alloc: Global, sig: &Sig, scheme: &ClockScheme) -> Result<Sig, NoMemory>
-    ensures { IfOk result (λ r. r ≡ spec.with_scheme sig.now scheme.now) }
+    ensures { IfOk result (λ r. r ≡ files.with_scheme sig.now scheme.now) }
 {
     Ok(Sig {
         name: sig.name,
@@ -57,7 +58,7 @@ fn with_each(
 /// The type signatures of a file's definitions with the clock schemes of their annotations:
 /// `sigs` has one for each `let`, in order. What stands in only one of the two is left out.
 pub fn clock_signatures(alloc: Global, sigs: List<Sig>, file: &Ann) -> Result<List<Sig>, NoMemory>
-    ensures { IfOk result (λ r. r ≡ spec.with_schemes sigs file.now.defs) }
+    ensures { IfOk result (λ r. r ≡ files.with_schemes sigs file.now.defs) }
 {
     let schemes = schemes_in(alloc, file.defs.as_slice())?;
     with_each(alloc, sigs.as_slice(), schemes.as_slice())
