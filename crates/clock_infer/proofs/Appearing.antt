@@ -16,12 +16,12 @@ use Rattle.clock_infer.proofs.Firsts.{seen_more}
 -- ---- one variable
 
 pub there : (s : Seen) (x : ℕ) (o : Option (Bor ClockTerm)) → option_copied o ≡ first s x → is_some o ≡ true → s ≡ seen_one s x
-there s x (Some b) e yes = ap (seen_at s x) e
-there s x None e yes = absurd (cc)
+there s x (Some b) e is = ap (seen_at s x) e
+there s x None e is = absurd (cc)
 
 pub missing : (s : Seen) (x : ℕ) (o : Option (Bor ClockTerm)) → option_copied o ≡ first s x → is_some o ≡ false → s ++ (x, clock.Var (length s)) ∷ [] ≡ seen_one s x
-missing s x (Some b) e no = absurd (cc)
-missing s x None e no = ap (seen_at s x) e
+missing s x (Some b) e is = absurd (cc)
+missing s x None e is = ap (seen_at s x) e
 
 -- ---- a clock
 

@@ -1,0 +1,4 @@
+use Rattle.clock_infer.proofs.signatures.clock_signatures.Goals as goal
+
+pub returns : goal.returns
+returns c = ?
