@@ -1,42 +1,16 @@
 -- The variables of a clock, as they appear.
-use Rattle.std.specs.Prelude.{◌≡◌, ℕ, ◌+◌, ◌<◌, Bool, true, false, List, [], ◌∷◌, ◌++◌, drop, get_or, map, length, Option, Some, None, is_some}
-use Rattle.std.specs.Borrow.{Bor}
-use Rattle.std.specs.Option.{option_copied}
+use Rattle.std.specs.Prelude.{◌≡◌, ℕ, ◌+◌, ◌<◌, List, [], ◌∷◌, drop, get_or, map, length}
 use Rattle.std.proofs.Common.{ap, sym, ◌∙◌}
 use Rattle.ls_base.proofs.Built.{rest}
 use Rattle.ls_terms.specs.declared.clocks.ClockTerm.{ClockTerm, fold-roll-ClockTerm}
 use Rattle.ls_terms.specs.declared.clocks.ClockTerm.TheOpen.{ClockTerm-F}
 use Rattle.ls_terms.specs.declared.clocks.ClockTerm.TheVariants as clock
-use Rattle.term_unify.specs.Terms.{first}
 use Rattle.tree_notes.specs.Order.{joined}
 use Rattle.clock_rules.specs.Files.{variables_in, variables_step}
-use Rattle.clock_infer.specs.Schemes.{Seen, seen_all, seen_at, seen_one}
+use Rattle.clock_infer.specs.Schemes.{Seen, seen_all}
 use Rattle.clock_infer.proofs.Firsts.{seen_more}
 
--- ---- one variable
-
-pub there : (s : Seen) (x : ℕ) (o : Option (Bor ClockTerm)) → option_copied o ≡ first s x → is_some o ≡ true → s ≡ seen_one s x
-there s x (Some b) e is = ap (seen_at s x) e
-there s x None e is = absurd (cc)
-
-pub missing : (s : Seen) (x : ℕ) (o : Option (Bor ClockTerm)) → option_copied o ≡ first s x → is_some o ≡ false → s ++ (x, clock.Var (length s)) ∷ [] ≡ seen_one s x
-missing s x (Some b) e is = absurd (cc)
-missing s x None e is = ap (seen_at s x) e
-
--- ---- a clock
-
 module _ (s : Seen) (t : ClockTerm) where
-  pub var_seen : (x : ℕ) (new : Seen) → t ≡ clock.Var x → new ≡ seen_one s x → new ≡ seen_all s (variables_in t)
-  var_seen x new is e = e ∙ sym (ap (λ z. seen_all s (variables_in z)) (is ∙ sym (clock.rolls-Var x)) ∙ ap (seen_all s) (fold-roll-ClockTerm (List ℕ) variables_step (ClockTerm-F.Var x)))
-
-  pub on_seen : (u v : ClockTerm) (m k : ℕ) (new : Seen) → t ≡ clock.On u m k → v ≡ u → new ≡ seen_all s (variables_in v) → new ≡ seen_all s (variables_in t)
-  on_seen u v m k new is same e =
-      e ∙ ap (λ z. seen_all s (variables_in z)) same
-      ∙ sym (ap (λ z. seen_all s (variables_in z)) (is ∙ sym (clock.rolls-On u m k)) ∙ ap (seen_all s) (fold-roll-ClockTerm (List ℕ) variables_step (ClockTerm-F.On u m k)))
-
-  pub pointwise_seen : t ≡ clock.Pointwise → s ≡ seen_all s (variables_in t)
-  pointwise_seen is = sym (ap (λ z. seen_all s (variables_in z)) (is ∙ sym clock.rolls-Pointwise) ∙ ap (seen_all s) (fold-roll-ClockTerm (List ℕ) variables_step ClockTerm-F.Pointwise))
-
   pub arrow_seen : (all slice : List ClockTerm) (to v : ClockTerm) (mid new : Seen) → t ≡ clock.Arrow all to → slice ≡ all → v ≡ to
       → mid ≡ seen_all s (joined (map variables_in slice)) → new ≡ seen_all mid (variables_in v) → new ≡ seen_all s (variables_in t)
   arrow_seen all slice to v mid new is same same' before after =

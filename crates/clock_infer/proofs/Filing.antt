@@ -18,9 +18,9 @@ use Rattle.clock_rules.specs.Files.{FirstIllClocked, HasPrincipal, Judged}
 use Rattle.clock_rules.specs.Fresh.{erase}
 use Rattle.clock_rules.specs.Judged.{IsPrincipal, NoneObeys}
 use Rattle.ls_places.specs.Definitions.{case_place}
-use Rattle.clock_infer.proofs.Casing.{cases_are}
-use Rattle.clock_infer.specs.Cases.{place_at, places}
-use Rattle.clock_infer.specs.Filed.{AreClockedAs, IsAnnotated, IsClockedAs, IsIll, line_of, schemes_after}
+use Rattle.clock_infer.specs.declared.file.ClockFault.{ClockFault}
+use Rattle.clock_infer.specs.declared.file.ClockFault.TheVariants as fault
+use Rattle.clock_infer.specs.Filed.{AreClockedAs, AtLine, IsAnnotated, IsClockedAs, IsIll, line_of, schemes_after}
 
 -- ---- one definition
 
@@ -118,12 +118,19 @@ module _ (cases : ℕ → Option ℕ) where
 
 -- ---- a file, by its constructors
 
-module _ (list : List (ℕ × ℕ)) (ds all : List (DefOf TypeNote)) (named : list ≡ places ds) (same : all ≡ ds) (schemes seen : List ClockScheme) (schemes_are : seen ≡ schemes) where
-  table : place_at list ≡ case_place ds
-  table = cases_are list ds named
+module _ (place : ℕ → Option ℕ) (ds all : List (DefOf TypeNote)) (table : place ≡ case_place ds) (same : all ≡ ds) (schemes seen : List ClockScheme) (schemes_are : seen ≡ schemes) where
+  clocked : (ns : List (DefOf Note)) → AreClockedAs place seen all ns → AreClockedAs (case_place ds) schemes ds ns
+  clocked ns h = subst (λ z. AreClockedAs z schemes ds ns) table (subst (λ z. AreClockedAs place z ds ns) schemes_are (subst (λ z. AreClockedAs place seen z ns) same h))
 
-  pub file_clocked : (ns : List (DefOf Note)) → AreClockedAs (place_at list) seen all ns → AreClockedAs (case_place ds) schemes ds ns
-  file_clocked ns h = subst (λ z. AreClockedAs z schemes ds ns) table (subst (λ z. AreClockedAs (place_at list) z ds ns) schemes_are (subst (λ z. AreClockedAs (place_at list) seen z ns) same h))
+  pub file_same : (ns : List (DefOf Note)) → AreClockedAs place seen all ns → map (λ d. in_definition Note TypeNote erase d) ns ≡ ds
+  file_same ns h = erased (case_place ds) schemes ds ns (clocked ns h)
 
-  pub file_ill : (at : ℕ) → FirstIllClocked (place_at list) seen all at → FirstIllClocked (case_place ds) schemes ds at
-  file_ill at h = subst (λ z. FirstIllClocked z schemes ds at) table (subst (λ z. FirstIllClocked (place_at list) z ds at) schemes_are (subst (λ z. FirstIllClocked (place_at list) seen z at) same h))
+  pub file_judged : (ns : List (DefOf Note)) → AreClockedAs place seen all ns → Judged (case_place ds) schemes ns
+  file_judged ns h = judged (case_place ds) schemes ds ns (clocked ns h)
+
+  first_ill : (at : ℕ) → FirstIllClocked place seen all at → FirstIllClocked (case_place ds) schemes ds at
+  first_ill at h = subst (λ z. FirstIllClocked z schemes ds at) table (subst (λ z. FirstIllClocked place z ds at) schemes_are (subst (λ z. FirstIllClocked place seen z at) same h))
+
+  pub file_refused : (f : ClockFault) → AtLine f (FirstIllClocked place seen all) → AtLine f (FirstIllClocked (case_place ds) schemes ds)
+  file_refused (fault.IllClocked line) h = first_ill line.0 h
+  file_refused fault.NoMemory h = tt

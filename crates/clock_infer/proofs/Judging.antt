@@ -1,5 +1,5 @@
 -- The fresh annotation under a most general unifier obeys exactly where the tests succeed.
-use Rattle.std.specs.Prelude.{◌≡◌, refl, ℕ, zero, suc, ◌+◌, ◌≤◌, ◌&&◌, Bool, true, List, [], ◌∷◌, map, length, Option, Some, None, unwrap_or, nat_le}
+use Rattle.std.specs.Prelude.{◌≡◌, refl, ℕ, zero, suc, ◌+◌, ◌≤◌, ◌&&◌, Bool, true, List, [], ◌∷◌, map, length, Option, Some, None, unwrap_or, nat_le, Result, Ok, Err, IfOk, IfSome, IfNone}
 use Rattle.std.proofs.Common.{ap, ap₂, sym, ◌∙◌, subst, arith}
 use Rattle.std.proofs.lemmas.Bool.{and_parts, leb-true, le-leb}
 use Rattle.ls_ast.specs.declared.tree.BodyOf.{BodyOf}
@@ -133,6 +133,16 @@ module _ (sigs : List ClockScheme) (cases : ℕ → Option ℕ) (s : Put) where
     acyclic = record { rank = h.acyclic.rank; below = h.acyclic.falls };
   }
 
+-- ---- answers
+
+pub none_holds : {A : Type 0} (o : Option A) (P : Type 0) → o ≡ None → IfNone o P → P
+none_holds None P e h = h
+none_holds (Some x) P e h = absurd (cc)
+
+pub some_holds : {A : Type 0} (o : Option A) (x : A) (P : A → Type 0) → o ≡ Some x → IfSome o P → P x
+some_holds None x P e h = absurd (cc)
+some_holds (Some y) x P e h = let same : y ≡ x = cc in subst P same h
+
 -- ---- definitions
 
 module _ (sigs : List ClockScheme) (cases : ℕ → Option ℕ) (params : List Pat) (marks : List Mark) (types : List TypeNote) (tree : BodyOf TypeNote)
@@ -207,3 +217,16 @@ module _ (sigs : List ClockScheme) (cases : ℕ → Option ℕ) (params : List P
 
     pub none_unmet : (Meets params marks p s → ⊥) → NoneObeys sigs cases params marks types tree
     none_unmet h = Inf.none_meets sigs cases params marks types tree ω G'.standing G'.unifies G'.general (λ o. h (meets o))
+
+    -- what is answered of the conditions
+    pub checked_principal : {X : Type 0} (r : Result (Option Clocked) X) → IfOk r (λ o. IfSome o (λ c. IsChecked params marks p s c))
+        → IfOk r (λ o. IfSome o (λ c. IsPrincipal sigs cases params marks types tree c.notes c.body))
+    checked_principal (Ok (Some c)) h = principal c h
+    checked_principal (Ok None) h = tt
+    checked_principal (Err e) h = tt
+
+    pub checked_none : {X : Type 0} (r : Result (Option Clocked) X) → IfOk r (λ o. IfNone o (Meets params marks p s → ⊥))
+        → IfOk r (λ o. IfNone o (NoneObeys sigs cases params marks types tree))
+    checked_none (Ok (Some c)) h = tt
+    checked_none (Ok None) h = none_unmet h
+    checked_none (Err e) h = tt

@@ -1,5 +1,5 @@
+pub mod Answering
 pub mod Appearing
-pub mod Casing
 pub mod Filing
 pub mod Firsts
 pub mod Judging

@@ -1,4 +1,3 @@
-pub mod Cases
 pub mod Filed
 pub mod Nodes
 pub mod Prepared

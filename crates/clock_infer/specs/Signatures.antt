@@ -14,6 +14,7 @@ schemes_in (item.Cases line name all ∷ ds) = schemes_in ds
 schemes_in (item.Let line node name params marks notes body ∷ ds) = scheme marks notes body.result.note.ck ∷ schemes_in ds
 
 -- a signature for each scheme, with its clocks
-abbrev pub with_each : List Sig → List ClockScheme → List Sig
-with_each (s ∷ ss) (k ∷ ks) = with_scheme s k ∷ with_each ss ks
-with_each _ _ = []
+abbrev pub with_each : List ClockScheme → List Sig → List Sig
+with_each [] ss = []
+with_each (k ∷ ks) [] = []
+with_each (k ∷ ks) (s ∷ ss) = with_scheme s k ∷ with_each ks ss

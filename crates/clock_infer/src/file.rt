@@ -9,9 +9,9 @@ ghost use Rattle.ls_sig.specs.declared.binder.Note.{Note};
 ghost use Rattle.ls_sig.specs.declared.binder.TypeNote.{TypeNote};
 ghost use Rattle.tree_notes.specs.Noted.{in_definition};
 
-use crate::cases::Cases;
 use crate::definition::{Clocked, clock_definition};
 use crate::schemes::{add_scheme, schemes_of};
+use case_tables::Cases;
 use clock_rules::ClockScheme;
 use ls_ast::{DefOf, FileOf};
 use ls_base::{Line, List, NoMemory, NoteCopy};
@@ -142,8 +142,10 @@ pub fn infer_clocks_after(alloc: Global, env: &Env, file: &Typed) -> Result<Ann,
     let cases = Cases::new(alloc, file.defs.as_slice())?;
     let schemes = schemes_of(alloc, env.sigs.as_slice())?;
     let names = file.names.copy(alloc)?;
-    let defs = clock_all(alloc, &cases, schemes, file.defs.as_slice())?;
-    Ok(FileOf { defs, names })
+    match clock_all(alloc, &cases, schemes, file.defs.as_slice()) {
+        Ok(defs) => Ok(FileOf { defs, names }),
+        Err(fault) => Err(fault),
+    }
 }
 
 /// The clocks of a file behind nothing.

@@ -1,7 +1,6 @@
 //! Inference of clocks: the principal annotation of a definition, or that none obeys the rules.
 #![tactic(auto)]
 
-mod cases;
 mod definition;
 mod file;
 mod nodes;

@@ -40,10 +40,10 @@ fn with_scheme(alloc: Global, sig: &Sig, scheme: &ClockScheme) -> Result<Sig, No
 /// Signatures with the clocks of schemes, one of each.
 fn with_each(
     alloc: Global,
-    sigs: &[Sig],
     schemes: &[ClockScheme],
+    sigs: &[Sig],
 ) -> Result<List<Sig>, NoMemory>
-    ensures { IfOk result (λ r. r ≡ spec.with_each sigs.now schemes.now) }
+    ensures { IfOk result (λ r. r ≡ spec.with_each schemes.now sigs.now) }
 {
     let mut done = List::new(alloc);
     for (k, scheme) in schemes.iter().enumerate() {
@@ -61,5 +61,5 @@ pub fn clock_signatures(alloc: Global, sigs: List<Sig>, file: &Ann) -> Result<Li
     ensures { IfOk result (λ r. r ≡ files.with_schemes sigs file.now.defs) }
 {
     let schemes = schemes_in(alloc, file.defs.as_slice())?;
-    with_each(alloc, sigs.as_slice(), schemes.as_slice())
+    with_each(alloc, schemes.as_slice(), sigs.as_slice())
 }

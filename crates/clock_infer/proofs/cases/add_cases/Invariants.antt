@@ -1,7 +1,0 @@
-use Rattle.std.proofs.Common.{◌≡◌, ◌++◌, drop}
-use Rattle.clock_infer.specs.Cases as spec
-use Rattle.clock_infer.proofs.cases.add_cases.Given as goal
-
-abbrev pub invariant-loop-k : goal.invariant-loop-k
-invariant-loop-k l =
-    l.list.list ++ spec.places_from (drop l.k l.all) l.k ≡ l.initial.list.list ++ spec.places_from l.all 0
