@@ -1,5 +1,5 @@
 -- The variables of a clock, as they appear.
-use Rattle.std.specs.Prelude.{◌≡◌, ℕ, ◌+◌, ◌<◌, List, [], ◌∷◌, drop, get_or, map, length}
+use Rattle.std.specs.Prelude.{◌≡◌, ℕ, ◌+◌, ◌<◌, List, drop, get_or, map, length}
 use Rattle.std.proofs.Common.{ap, sym, ◌∙◌}
 use Rattle.ls_base.proofs.Built.{rest}
 use Rattle.ls_terms.specs.declared.clocks.ClockTerm.{ClockTerm, fold-roll-ClockTerm}

@@ -1,6 +1,6 @@
 -- Definitions with clocks, one after the other.
-use Rattle.std.specs.Prelude.{◌≡◌, refl, ℕ, zero, suc, ◌+◌, ◌<◌, Bool, List, [], ◌∷◌, ◌++◌, map, length, Option}
-use Rattle.std.proofs.Common.{ap, ap₂, sym, ◌∙◌, subst, arith, inl, inr, drop, get_or}
+use Rattle.std.specs.Prelude.{◌≡◌, refl, ℕ, ◌+◌, ◌<◌, Bool, List, [], ◌∷◌, ◌++◌, map, length, Option}
+use Rattle.std.proofs.Common.{ap, ap₂, sym, ◌∙◌, subst, inl, inr, drop, get_or}
 use Rattle.std.proofs.lemmas.List.{append-nil}
 use Rattle.ls_ast.specs.declared.tree.BodyOf.{BodyOf}
 use Rattle.ls_ast.specs.declared.tree.DefOf.{DefOf}
@@ -14,13 +14,13 @@ use Rattle.ls_sig.specs.declared.binder.Note.{Note}
 use Rattle.ls_sig.specs.declared.binder.TypeNote.{TypeNote}
 use Rattle.tree_notes.specs.Noted.{in_body, in_definition}
 use Rattle.clock_rules.specs.declared.scheme.ClockScheme.{ClockScheme}
-use Rattle.clock_rules.specs.Files.{FirstIllClocked, HasPrincipal, Judged}
+use Rattle.clock_rules.specs.Files.{FirstIllClocked, Judged}
 use Rattle.clock_rules.specs.Fresh.{erase}
 use Rattle.clock_rules.specs.Judged.{IsPrincipal, NoneObeys}
 use Rattle.ls_places.specs.Definitions.{case_place}
 use Rattle.clock_infer.specs.declared.file.ClockFault.{ClockFault}
 use Rattle.clock_infer.specs.declared.file.ClockFault.TheVariants as fault
-use Rattle.clock_infer.specs.Filed.{AreClockedAs, AtLine, IsAnnotated, IsClockedAs, IsIll, line_of, schemes_after}
+use Rattle.clock_infer.specs.Filed.{AreClockedAs, AtLine, IsClockedAs, IsIll, line_of, schemes_after}
 
 -- ---- one definition
 

@@ -1,5 +1,5 @@
 -- Variables that are numbered as they appear have the numbers of their first places.
-use Rattle.std.specs.Prelude.{◌≡◌, refl, ℕ, zero, suc, ◌+◌, ◌==◌, ◌||◌, Bool, true, false, List, [], ◌∷◌, ◌++◌, map, length, Option, Some, None, if◌then◌else◌}
+use Rattle.std.specs.Prelude.{◌≡◌, refl, ℕ, suc, ◌+◌, ◌==◌, ◌||◌, Bool, true, false, List, [], ◌∷◌, ◌++◌, map, length, Option, Some, None, if◌then◌else◌}
 use Rattle.std.proofs.Common.{ap, ap₂, sym, ◌∙◌, arith}
 use Rattle.std.proofs.lemmas.Bool.{eqb-true, eq-eqb}
 use Rattle.ls_ast.specs.declared.tree.Mark.{Mark}
@@ -13,7 +13,6 @@ use Rattle.ls_terms.specs.Clocks.{apply}
 use Rattle.tree_notes.specs.Order.{joined}
 use Rattle.clock_rules.specs.declared.scheme.ClockScheme.{ClockScheme}
 use Rattle.clock_rules.specs.Files.{clock_marks, firsts, place_from, place_option, scheme, variables_in, without}
-use Rattle.clock_rules.specs.Terms.{var}
 use Rattle.clock_infer.specs.Schemes.{Seen, seen_all, seen_at, seen_one}
 
 same_back : (x y : ℕ) → (x == y) ≡ (y == x)

@@ -1,5 +1,5 @@
 -- The fresh annotation under a most general unifier obeys exactly where the tests succeed.
-use Rattle.std.specs.Prelude.{◌≡◌, refl, ℕ, zero, suc, ◌+◌, ◌≤◌, ◌&&◌, Bool, true, List, [], ◌∷◌, map, length, Option, Some, None, unwrap_or, nat_le, Result, Ok, Err, IfOk, IfSome, IfNone}
+use Rattle.std.specs.Prelude.{◌≡◌, refl, ℕ, zero, suc, ◌+◌, ◌≤◌, ◌&&◌, Bool, true, List, [], ◌∷◌, map, length, Option, Some, None, unwrap_or, Result, Ok, Err, IfOk, IfSome, IfNone}
 use Rattle.std.proofs.Common.{ap, ap₂, sym, ◌∙◌, subst, arith}
 use Rattle.std.proofs.lemmas.Bool.{and_parts, leb-true, le-leb}
 use Rattle.ls_ast.specs.declared.tree.BodyOf.{BodyOf}
@@ -8,7 +8,6 @@ use Rattle.ls_ast.specs.declared.tree.Pat.{Pat}
 use Rattle.ls_terms.specs.declared.clocks.ClockTerm.{ClockTerm, fold-roll-ClockTerm}
 use Rattle.ls_terms.specs.declared.clocks.ClockTerm.TheOpen.{ClockTerm-F}
 use Rattle.ls_terms.specs.Clocks.{apply, apply_at, kids_at, size, stands, sum}
-use Rattle.ls_places.specs.Search.{nth}
 use Rattle.ls_places.specs.declared.places.Places.{Places}
 use Rattle.ls_sig.specs.declared.binder.Note.{Note}
 use Rattle.ls_sig.specs.declared.binder.TypeNote.{TypeNote}
@@ -28,7 +27,7 @@ use Rattle.clock_rules.proofs.Inference as Inf
 use Rattle.clock_rules.proofs.Principal.{formed_in, unifying_obeys}
 use Rattle.clock_conditions.specs.Every.{every}
 use Rattle.clock_conditions.specs.Met.{Met, ParamMet}
-use Rattle.clock_infer.specs.Nodes.{node_small, nodes_small}
+use Rattle.clock_infer.specs.Nodes.{node_small}
 use Rattle.clock_pairs.specs.Scene.{function}
 use Rattle.clock_infer.specs.Prepared.{IsPrepared, IsGeneral, IsUnsolvable, IsChecked, Meets, Put, annotation, pairs, put_clocks, put_facts}
 use Rattle.clock_infer.specs.declared.definition.Clocked.{Clocked}

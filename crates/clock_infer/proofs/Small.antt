@@ -1,14 +1,11 @@
 -- The sizes in an expression are those of its layers.
-use Rattle.std.specs.Prelude.{◌≡◌, refl, ◌&&◌, Bool, true, false, List, [], ◌∷◌, ◌++◌, ℕ, ◌+◌, ◌<◌, length, map, Option, IfOk}
+use Rattle.std.specs.Prelude.{◌≡◌, refl, ◌&&◌, Bool, true, false, List, [], ◌∷◌, ℕ, ◌+◌, ◌<◌, length, map, IfOk}
 use Rattle.std.proofs.Common.{ap, sym, ◌∙◌, drop, get_or, Result, Ok, Err}
 use Rattle.ls_ast.specs.declared.tree.Expr.{Expr}
-use Rattle.ls_base.specs.declared.Name.{Name}
 use Rattle.ls_ast.specs.declared.tree.Form.{Form}
-use Rattle.ls_ast.specs.declared.tree.Form.TheVariants.{Call, outs-Call}
 use Rattle.ls_terms.specs.declared.clocks.ClockTerm.{ClockTerm}
 use Rattle.ls_sig.specs.declared.binder.Note.{Note}
 use Rattle.ls_base.proofs.Built.{rest}
-use Rattle.ls_places.specs.Clocks.{form_parts}
 use Rattle.ls_places.specs.Places.{Place}
 use Rattle.ls_places.specs.declared.places.Whole.{Whole}
 use Rattle.clock_rules.specs.Facts.{nodes_of, placed}

@@ -1,6 +1,6 @@
 -- A most general unifier, as unification gives it.
-use Rattle.std.specs.Prelude.{◌≡◌, refl, ℕ, ◌≤◌, ◌==◌, Bool, true, false, List, [], ◌∷◌, Option, Some, None, All, if◌then◌else◌}
-use Rattle.std.proofs.Common.{ap, sym, ◌∙◌, subst}
+use Rattle.std.specs.Prelude.{◌≡◌, ℕ, ◌≤◌, ◌==◌, Bool, true, false, List, [], ◌∷◌, Option, Some, All, if◌then◌else◌}
+use Rattle.std.proofs.Common.{subst}
 use Rattle.ls_ast.specs.declared.tree.Mark.{Mark}
 use Rattle.ls_terms.specs.declared.clocks.ClockTerm.{ClockTerm}
 use Rattle.ls_terms.specs.Clocks.{apply, size, stands}

@@ -38,11 +38,7 @@ fn with_scheme(alloc: Global, sig: &Sig, scheme: &ClockScheme) -> Result<Sig, No
 }
 
 /// Signatures with the clocks of schemes, one of each.
-fn with_each(
-    alloc: Global,
-    schemes: &[ClockScheme],
-    sigs: &[Sig],
-) -> Result<List<Sig>, NoMemory>
+fn with_each(alloc: Global, schemes: &[ClockScheme], sigs: &[Sig]) -> Result<List<Sig>, NoMemory>
     ensures { IfOk result (λ r. r ≡ spec.with_each schemes.now sigs.now) }
 {
     let mut done = List::new(alloc);

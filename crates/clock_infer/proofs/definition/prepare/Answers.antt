@@ -1,4 +1,4 @@
-use Rattle.std.proofs.Common.{◌∙◌, ap, sym, []}
+use Rattle.std.proofs.Common.{◌∙◌, sym, []}
 use Rattle.ls_places.specs.Places.{find}
 use Rattle.ls_sig.specs.Notes.{is_signal}
 use Rattle.ls_sig.specs.declared.binder.Note.{Note}

@@ -15,7 +15,7 @@ returns-in-Ok-clause-principal c =
     file_judged (place c.in_ok-cases.cases) c.args.file.now.defs c.as_slice-3.result.now (c.in_ok-cases.ensures ∙ ap case_place c.as_slice.ensures.value) c.as_slice-3.ensures.value
     (map scheme_of c.args.env.now.sigs) c.in_ok-schemes.schemes (c.in_ok-schemes.ensures ∙ ap (map scheme_of) c.as_slice-2.ensures.value) c.in-Ok.defs c.in-Ok.ensures.clocked
 
-pub returns-in-Err-clause-refused : goal.returns-in-Err-clause-refused
-returns-in-Err-clause-refused c =
+pub returns-clause-refused : goal.returns-clause-refused
+returns-clause-refused c =
     file_refused (place c.in_ok-cases.cases) c.args.file.now.defs c.as_slice-3.result.now (c.in_ok-cases.ensures ∙ ap case_place c.as_slice.ensures.value) c.as_slice-3.ensures.value
     (map scheme_of c.args.env.now.sigs) c.in_ok-schemes.schemes (c.in_ok-schemes.ensures ∙ ap (map scheme_of) c.as_slice-2.ensures.value) c.in-Err.fault c.in-Err.ensures.ill

@@ -1,4 +1,4 @@
-use Rattle.std.proofs.Common.{◌≡◌, ◌+◌, ◌-◌, ◌++◌, drop, map}
+use Rattle.std.proofs.Common.{◌≡◌, drop}
 use Rattle.clock_infer.specs.Nodes as spec
 use Rattle.clock_infer.proofs.nodes.+small.Given as goal
 
