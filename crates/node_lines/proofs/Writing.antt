@@ -1,8 +1,8 @@
 -- The cells of a result can be written where the constructors in its value can.
-use Rattle.std.specs.Prelude.{◌≡◌, refl, ℕ, List, [], ◌∷◌, ◌++◌, map, Option, None, Some, All}
+use Rattle.std.specs.Prelude.{◌≡◌, refl, ℕ, List, [], ◌∷◌, ◌++◌, map, length, Option, None, Some, All}
 use Rattle.std.proofs.Common.{ap, sym, ◌∙◌, subst}
-use Rattle.std.proofs.lemmas.List.Elements.{All-map, All-from_recursion, recursion_from_All}
-use Rattle.core.specs.List.{AllByRecursion}
+use Rattle.std.proofs.lemmas.List.Elements.{All-map, All-replicate, All-from_recursion, recursion_from_All}
+use Rattle.std.specs.List.{AllByRecursion}
 use Rattle.ls_value.specs.declared.leaf.Leaf.{Leaf}
 use Rattle.ls_value.specs.declared.leaf.Leaf.TheVariants.{Nil}
 use Rattle.line_io.specs.declared.form.Cell.{Cell}
@@ -88,7 +88,7 @@ module _ (form : InputForm) where
       (λ w a. subst Every (sym (ap (λ f. f w) (fold-roll-TypeTerm (Value → List Leaf) value_step (tops y)))) (layer_good y w a)))
 
   each_good : (c : Cell) → IsWritable form c → (t : TypeTerm) → All (IsWritable form) (each c t)
-  each_good c g t = All-map (IsWritable form) (λ s. c) (leaves t) (λ k d lt. g)
+  each_good c g t = All-replicate (IsWritable form) (length (leaves t)) c g
 
   results_good : (t : TypeTerm) (c : Option Argument) → ((w : Value) → c ≡ Some (cell.Present w) → IsSpelled form w) → All (IsWritable form) (result_cells t c)
   results_good t (Some (cell.Present w)) h =

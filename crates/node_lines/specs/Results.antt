@@ -1,5 +1,5 @@
 -- The cells of an output line.
-use Rattle.std.specs.Prelude.{List, [], ◌∷◌, ◌++◌, map, Option, None, Some}
+use Rattle.std.specs.Prelude.{Bool as Truth, if◌then◌else◌, List, [], ◌∷◌, ◌++◌, map, length, replicate, Option, None, Some}
 use Rattle.ls_value.specs.declared.leaf.Leaf.{Leaf}
 use Rattle.line_io.specs.declared.form.Cell.{Cell}
 use Rattle.line_io.specs.declared.form.Cell.TheVariants.{Absent, NotEmitted, Leaf as Given}
@@ -28,8 +28,13 @@ value_step _ w = the_leaf w ∷ []
 abbrev pub value_leaves : TypeTerm → Value → List Leaf
 value_leaves = fold-TypeTerm (Value → List Leaf) value_step
 
+-- what a line has as `.`: a signal that is not emitted, or what is absent
+abbrev pub dot : Truth → Cell
+dot silent = if silent then NotEmitted else Absent
+
+-- the same cell for each leaf
 abbrev pub each : Cell → TypeTerm → List Cell
-each c t = map {B = Cell} (λ shape. c) (leaves t)
+each c t = replicate (length (leaves t)) c
 
 -- The cells of a result of this type, unit included. One that is not known counts as absent; so does a choice of arms, which no
 -- result is.

@@ -1,6 +1,6 @@
 //! The cells of an output line.
 
-ghost use Rattle.std.specs.Prelude.{◌≡◌, ◌++◌, IfOk, OnOk, map};
+ghost use Rattle.std.specs.Prelude.{◌≡◌, ◌++◌, IfOk, OnOk, map, replicate};
 ghost use Rattle.std.specs.Option.{option_copied};
 ghost use Rattle.kahn_model.specs.Values as values;
 ghost use Rattle.line_io.specs.declared.form.Cell.TheVariants.{Leaf as Given};
@@ -78,16 +78,28 @@ fn given(alloc: Global, t: &TypeTerm, w: &Value) -> Result<List<Cell>, NoMemory>
     Ok(done)
 }
 
-/// The same cell for each leaf.
-fn each(alloc: Global, c: &Cell, t: &TypeTerm) -> Result<List<Cell>, NoMemory>
-    ensures { IfOk result (λ r. r ≡ spec.each c.now t.now) }
+fn dot(silent: bool) -> Cell
+    ensures { result ≡ spec.dot silent }
+{
+    if silent { Cell::NotEmitted } else { Cell::Absent }
+}
+
+fn repeat<T: Copy + Drop>(alloc: Global, item: T, times: usize) -> Result<List<T>, NoMemory>
+    ensures { IfOk result (λ r. r ≡ replicate times item) }
 {
     let mut done = List::new(alloc);
-    let shapes = leaves(alloc, t)?;
-    for _shape in shapes.as_slice() {
-        done.push(*c)?;
+    for _made in 0..times {
+        done.push(item)?;
     }
     Ok(done)
+}
+
+/// The same cell for each leaf.
+fn each(alloc: Global, silent: bool, t: &TypeTerm) -> Result<List<Cell>, NoMemory>
+    ensures { IfOk result (λ r. r ≡ spec.each (spec.dot silent) t.now) }
+{
+    let shapes = leaves(alloc, t)?;
+    repeat(alloc, dot(silent), shapes.len())
 }
 
 /// The cells of a line for a result of a type. A result that is not known counts as absent.
@@ -100,9 +112,9 @@ pub fn result_cells(
 {
     match c {
         Some(kahn_model::Cell::Present(w)) => given(alloc, t, w),
-        Some(kahn_model::Cell::Silent) => each(alloc, &Cell::NotEmitted, t),
-        Some(kahn_model::Cell::Absent) => each(alloc, &Cell::Absent, t),
-        Some(kahn_model::Cell::Chosen(_, _)) => each(alloc, &Cell::Absent, t),
-        None => each(alloc, &Cell::Absent, t),
+        Some(kahn_model::Cell::Silent) => each(alloc, true, t),
+        Some(kahn_model::Cell::Absent) => each(alloc, false, t),
+        Some(kahn_model::Cell::Chosen(_, _)) => each(alloc, false, t),
+        None => each(alloc, false, t),
     }
 }
