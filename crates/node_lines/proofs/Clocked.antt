@@ -1,5 +1,5 @@
 -- The cell of a parameter is absent exactly where its clock is off.
-use Rattle.std.specs.Prelude.{◌≡◌, ◌≢◌, refl, ℕ, zero, suc, ◌+◌, ◌<◌, ◌==◌, ◌&&◌, ◌⊎◌, Bool as Truth, true, false, not, if◌then◌else◌, List, [], ◌∷◌, ◌++◌, map, length, drop, slice_get, Option, None, Some, unwrap_or, MatchOption, All}
+use Rattle.std.specs.Prelude.{◌≡◌, refl, ℕ, zero, suc, ◌+◌, ◌<◌, ◌==◌, ◌&&◌, ◌⊎◌, Bool as Truth, true, false, not, if◌then◌else◌, List, [], ◌∷◌, ◌++◌, map, length, drop, slice_get, Option, None, Some, unwrap_or, MatchOption}
 use Rattle.std.proofs.Common.{ap, ap₂, sym, ◌∙◌, subst, arith, inl, inr}
 use Rattle.std.proofs.lemmas.Bool.{false≢true, and_parts}
 use Rattle.std.proofs.lemmas.Bool.Decides.{nat_tests, Decides-int_eq}
@@ -16,18 +16,17 @@ use Rattle.line_io.specs.declared.form.Cell.TheVariants.{Absent, NotEmitted, Lea
 use Rattle.line_io.specs.declared.form.Field.{Field}
 use Rattle.line_io.specs.declared.form.InputForm.{InputForm}
 use Rattle.line_io.specs.declared.form.Reading.{Reading}
-use Rattle.line_io.specs.declared.form.Reading.TheVariants.{Dot, Leaf as Holding, Bad}
-use Rattle.line_io.specs.Cells.{IsOn, IsLine, CellAt, CellIs, Fits}
-use Rattle.line_io.specs.Fields.{ReadsAs, Spells}
+use Rattle.line_io.specs.declared.form.Reading.TheVariants.{Leaf as Holding}
+use Rattle.line_io.specs.Cells.{IsOn, IsLine, CellAt, CellIs}
+use Rattle.line_io.specs.Fields.{ReadsAs}
 use Rattle.line_io.specs.Words.{words_of}
 use Rattle.ls_terms.specs.declared.types.TypeTerm.{TypeTerm}
 use Rattle.ls_terms.specs.declared.clocks.ClockTerm.{ClockTerm}
 use Rattle.ls_sig.specs.declared.sigs.Sig.{Sig}
 use Rattle.kahn_model.specs.declared.cell.Cell.{Cell as Argument}
-use Rattle.kahn_model.specs.Rows.{know}
 use Rattle.node_lines.specs.Leaves.{is_unit, leaves, input_leaves, field_of}
 use Rattle.node_lines.specs.Form.{asked, field, fields_from, fields, signal_number, signals_with, form}
-use Rattle.node_lines.specs.Arguments.{is_same, holds, is_on, by_clock, by_fields, argument_of, cell_in, argument}
+use Rattle.node_lines.specs.Arguments.{is_same, holds, is_on, by_clock, by_fields, argument_of, argument}
 use Rattle.node_lines.specs.Laws.{is_absent, AbsentByClock}
 use Rattle.node_lines.proofs.Lists.{found}
 

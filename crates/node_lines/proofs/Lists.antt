@@ -1,10 +1,7 @@
 -- Lists, and where the fields of parameters begin.
-use Rattle.std.specs.Prelude.{◌≡◌, refl, ℕ, zero, suc, ◌+◌, List, [], ◌∷◌, ◌++◌, map, length, slice_get, Option, None, Some, Result, Ok, Err, OnOk, IfOk, IfSome, MatchOption, ◌<◌, ◌≤◌}
-use Rattle.std.proofs.Common.{ap, ap₂, sym, ◌∙◌, arith, get_or, Bor}
-use Rattle.std.specs.List.{HoldsAt}
+use Rattle.std.specs.Prelude.{◌≡◌, refl, ℕ, zero, suc, ◌+◌, List, [], ◌∷◌, ◌++◌, map, length, slice_get, None, Some, Result, Ok, Err, OnOk, IfOk}
+use Rattle.std.proofs.Common.{ap, ap₂, sym, ◌∙◌, arith}
 use Rattle.std.proofs.lemmas.List.{append-nil}
-use Rattle.std.proofs.lemmas.Option.{slice_get_past, slice_get_read}
-use Rattle.std.specs.Option.{option_copied}
 use Rattle.ls_ast.specs.declared.tree.DefOf.{DefOf}
 use Rattle.ls_ast.specs.declared.tree.DefOf.TheVariants as item
 use Rattle.ls_places.specs.Search.{count_up}
@@ -14,16 +11,12 @@ use Rattle.ls_value.specs.declared.leaf.Leaf.{Leaf}
 use Rattle.line_io.specs.declared.form.Cell.{Cell}
 use Rattle.node_lines.specs.Leaves.{input_leaves, field_of}
 use Rattle.node_lines.specs.Form.{constructors, asked, asked_of, case_leaf}
-use Rattle.node_lines.specs.Starts.{starts_from, nowhere}
-use Rattle.node_lines.specs.Arguments.{cell_in, argument, column}
+use Rattle.node_lines.specs.Starts.{starts_from}
+use Rattle.node_lines.specs.Arguments.{cell_in, argument}
 
 pub map_both : {A B : Type 0} (f : A → B) (xs ys : List A) → map f (xs ++ ys) ≡ map f xs ++ map f ys
 map_both f [] ys = refl
 map_both f (x ∷ xs) ys = ap (λ z. f x ∷ z) (map_both f xs ys)
-
-pub map_same : {A B : Type 0} (f g : A → B) (xs : List A) → ((x : A) → f x ≡ g x) → map f xs ≡ map g xs
-map_same f g [] e = refl
-map_same f g (x ∷ xs) e = ap₂ (λ y ys. y ∷ ys) (e x) (map_same f g xs e)
 
 -- ---- numbers one after the other
 
@@ -63,12 +56,6 @@ no_start [] n m t e f = cc
 no_start (u ∷ ts) n zero t e f = cc
 no_start (u ∷ ts) n (suc m) t e f = no_start ts (n + length (input_leaves u)) m t e f
 
--- what is found at a place of a slice
-pub looked_up : {A : Type 0} (r : Option (Bor A)) (xs : List A) (k : ℕ) → MatchOption r (length xs ≤ k) (λ x. (k < length xs) × HoldsAt (λ y. x.now ≡ y) xs k) → IfSome r (λ x. x.now ≡ get_or xs k x.now)
-    → option_copied r ≡ slice_get xs k
-looked_up None xs k past here = sym (slice_get_past xs k past)
-looked_up (Some x) xs k within here = sym (slice_get_read xs (length xs) k x.now refl within.0 here)
-
 -- ---- what sampling asks
 
 module _ (params : List TypeTerm) (m k : ℕ) where
@@ -93,16 +80,6 @@ module _ (params : List TypeTerm) (clocks : List ClockTerm) (m : ℕ) where
   pub found : (t : TypeTerm) (ck : ClockTerm) (on : List (ℕ × Leaf)) (at : ℕ) (line : List Cell) → slice_get params m ≡ Some t → slice_get clocks m ≡ Some ck
       → on ≡ asked params ck → at ≡ field_of params m → cell_in t on at line ≡ argument params clocks m line
   found t ck on at line e f g h = rw (e, f, g, h)
-
-  pub column_is : (t : TypeTerm) (ck : ClockTerm) (on : List (ℕ × Leaf)) (at : ℕ) (lines : List (List Cell)) → slice_get params m ≡ Some t → slice_get clocks m ≡ Some ck
-      → on ≡ asked params ck → at ≡ field_of params m → map (cell_in t on at) lines ≡ column params clocks lines m
-  column_is t ck on at lines e f g h = map_same (cell_in t on at) (argument params clocks m) lines (λ line. found t ck on at line e f g h)
-
-  pub no_param : (lines : List (List Cell)) → slice_get params m ≡ None → map nowhere lines ≡ column params clocks lines m
-  no_param lines e = map_same nowhere (argument params clocks m) lines (λ line. rw e)
-
-  pub no_clock : (t : TypeTerm) (lines : List (List Cell)) → slice_get params m ≡ Some t → slice_get clocks m ≡ None → map nowhere lines ≡ column params clocks lines m
-  no_clock t lines e f = map_same nowhere (argument params clocks m) lines (λ line. rw (e, f))
 
 pub ok_same : {T E : Type 0} (r : Result T E) (x y : T) → x ≡ y → IfOk r (λ v. v ≡ x) → IfOk r (λ v. v ≡ y)
 ok_same (Ok v) x y e h = h ∙ e

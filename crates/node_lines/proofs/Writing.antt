@@ -1,5 +1,5 @@
 -- The cells of a result can be written where the constructors in its value can.
-use Rattle.std.specs.Prelude.{◌≡◌, refl, ℕ, List, [], ◌∷◌, ◌++◌, map, length, Option, None, Some, All}
+use Rattle.std.specs.Prelude.{◌≡◌, refl, List, [], ◌∷◌, ◌++◌, map, length, Option, None, Some, All}
 use Rattle.std.proofs.Common.{ap, sym, ◌∙◌, subst}
 use Rattle.std.proofs.lemmas.List.Elements.{All-map, All-replicate, All-from_recursion, recursion_from_All}
 use Rattle.std.specs.List.{AllByRecursion}

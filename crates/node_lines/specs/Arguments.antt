@@ -1,5 +1,5 @@
 -- What the cells of a line give to the parameters of a node.
-use Rattle.std.specs.Prelude.{ℕ, ◌&&◌, Bool as Truth, true, false, if◌then◌else◌, List, [], ◌∷◌, map, length, drop, Option, None, Some, slice_get, unwrap_or}
+use Rattle.std.specs.Prelude.{ℕ, ◌&&◌, Bool as Truth, true, false, if◌then◌else◌, List, [], ◌∷◌, map, length, drop, Option, Some, slice_get, unwrap_or}
 use Rattle.ls_value.specs.declared.leaf.Leaf.{Leaf}
 use Rattle.ls_value.specs.declared.leaf.Leaf.TheVariants.{Nil, Unit as Nothing}
 use Rattle.ls_ops.specs.Values.{equality}
@@ -86,10 +86,14 @@ argument_of t on cells = if is_unit t then by_clock on else by_fields t cells
 abbrev pub cell_in : TypeTerm → List (ℕ × Leaf) → ℕ → List Cell → Option Argument
 cell_in t on at line = Some (argument_of t (is_on line on) (drop at line))
 
+-- the cell of the parameter m, which has this type and this clock
+abbrev pub cell_of : List TypeTerm → ℕ → TypeTerm → ClockTerm → List Cell → Option Argument
+cell_of params m t ck = cell_in t (asked params ck) (field_of params m)
+
 module _ (params : List TypeTerm) (clocks : List ClockTerm) where
   -- the cell of the parameter m in a line of these cells
   abbrev pub argument : ℕ → List Cell → Option Argument
-  argument m line = know (slice_get params m) (λ t. know (slice_get clocks m) (λ ck. cell_in t (asked params ck) (field_of params m) line))
+  argument m line = know (slice_get params m) (λ t. know (slice_get clocks m) (λ ck. cell_of params m t ck line))
 
   -- the cells of the parameter m in some lines
   abbrev pub column : List (List Cell) → ℕ → List (Option Argument)

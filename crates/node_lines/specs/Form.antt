@@ -1,5 +1,5 @@
 -- The form of the lines of a node: a field for each leaf of each parameter, in order.
-use Rattle.std.specs.Prelude.{ℕ, ◌+◌, ◌==◌, Bool as Truth, if◌then◌else◌, List, [], ◌∷◌, ◌++◌, map, Option, None, Some, slice_get}
+use Rattle.std.specs.Prelude.{ℕ, ◌+◌, ◌==◌, if◌then◌else◌, List, [], ◌∷◌, ◌++◌, map, Option, None, Some, slice_get}
 use Rattle.ls_base.specs.declared.Name.{Name}
 use Rattle.ls_value.specs.declared.leaf.Leaf.{Leaf}
 use Rattle.ls_value.specs.declared.leaf.Leaf.TheVariants.{Nil, Bool, Enum}
@@ -57,10 +57,14 @@ signals_with t before = if is_signal t then before + 1 else before
 abbrev pub field : List (ℕ × Leaf) → Option ℕ → Shape → Field
 field on signal shape = record { shape = shape; on = on; signal = signal }
 
+-- those of a parameter of a type, on a clock, behind so many signals
+abbrev pub fields_of : List TypeTerm → TypeTerm → ClockTerm → ℕ → List Field
+fields_of params t ck before = map (field (asked params ck) (signal_number t before)) (input_leaves t)
+
 -- the fields of the parameters `ts` on the clocks `cks`, which are the last ones of `params`, behind so many signals
 abbrev pub fields_from : List TypeTerm → List TypeTerm → List ClockTerm → ℕ → List Field
 fields_from params (t ∷ ts) (ck ∷ cks) before =
-    map (field (asked params ck) (signal_number t before)) (input_leaves t) ++ fields_from params ts cks (signals_with t before)
+    fields_of params t ck before ++ fields_from params ts cks (signals_with t before)
 fields_from params _ _ before = []
 
 abbrev pub fields : List TypeTerm → List ClockTerm → List Field

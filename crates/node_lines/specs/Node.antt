@@ -1,5 +1,5 @@
 -- The definitions of a file as nodes that run on lines.
-use Rattle.std.specs.Prelude.{ℕ, ◌+◌, Bool, true, List, [], ◌∷◌, ◌++◌, map, length, Option, None, Some}
+use Rattle.std.specs.Prelude.{ℕ, Bool, true, List, [], ◌∷◌, ◌++◌, map, length, Option, None, Some}
 use Rattle.line_io.specs.declared.form.Cell.{Cell}
 use Rattle.line_io.specs.declared.form.InputForm.{InputForm}
 use Rattle.line_io.specs.Rows.{row_text}

@@ -149,11 +149,7 @@ fn value(alloc: Global, t: &TypeTerm, cells: &[Cell]) -> Result<Value, NoMemory>
     }
 }
 
-fn by_fields(
-    alloc: Global,
-    t: &TypeTerm,
-    cells: &[Cell],
-) -> Result<kahn_model::Cell, NoMemory>
+fn by_fields(alloc: Global, t: &TypeTerm, cells: &[Cell]) -> Result<kahn_model::Cell, NoMemory>
     ensures { IfOk result (λ r. r ≡ spec.by_fields t.now cells.now) }
 {
     match cells {

@@ -3,7 +3,6 @@
 ghost use Rattle.std.specs.Prelude.{◌≡◌, ◌+◌, ◌≤◌, ◌++◌, ◌∷◌, [], IfOk, OnOk, length, map, slice_get, Some};
 ghost use Rattle.ls_sig.specs.Notes as notes;
 ghost use Rattle.node_lines.specs.Form as spec;
-ghost use Rattle.node_lines.specs.Leaves as widths;
 ghost use Rattle.node_lines.specs.Starts as places;
 
 use crate::shapes::input_leaves;
@@ -174,7 +173,7 @@ fn add_param(
     done: &mut List<Field>,
 ) -> Result<(), NoMemory>
     requires { starts.now ≡ places.starts params.now }
-    ensures { OnOk result (done.new ≡ done.old ++ map (spec.field (spec.asked params.now ck.now) (spec.signal_number t.now before)) (widths.input_leaves t.now)) }
+    ensures { OnOk result (done.new ≡ done.old ++ spec.fields_of params.now t.now ck.now before) }
 {
     let on = asked(alloc, params, starts, ck)?;
     let shapes = input_leaves(alloc, t)?;
@@ -183,11 +182,7 @@ fn add_param(
 }
 
 /// The fields of the parameters, in order.
-fn fields(
-    alloc: Global,
-    params: &[TypeTerm],
-    clocks: &[ClockTerm],
-) -> Result<List<Field>, NoMemory>
+fn fields(alloc: Global, params: &[TypeTerm], clocks: &[ClockTerm]) -> Result<List<Field>, NoMemory>
     ensures { IfOk result (λ r. r ≡ spec.fields params.now clocks.now) }
 {
     let starts = starts(alloc, params)?;
@@ -222,10 +217,7 @@ fn add_constructors<N>(
 
 /// The constructors of the enumerations of a file, in order.
 #[tactic(auto, using(crate::proofs::Lists::first_item))]
-pub fn constructors<N>(
-    alloc: Global,
-    file: &[DefOf<N>],
-) -> Result<List<List<Name>>, NoMemory>
+pub fn constructors<N>(alloc: Global, file: &[DefOf<N>]) -> Result<List<List<Name>>, NoMemory>
     ensures { IfOk result (λ r. r ≡ spec.constructors file.now) }
 {
     let mut done = List::new(alloc);

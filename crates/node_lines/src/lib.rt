@@ -9,6 +9,8 @@ mod results;
 mod rows;
 mod runnable;
 mod shapes;
+#[cfg(test)]
+mod tests;
 
 pub use fields::{constructors, form};
 pub use results::result_cells;

@@ -81,7 +81,11 @@ fn given(alloc: Global, t: &TypeTerm, w: &Value) -> Result<List<Cell>, NoMemory>
 fn dot(silent: bool) -> Cell
     ensures { result ≡ spec.dot silent }
 {
-    if silent { Cell::NotEmitted } else { Cell::Absent }
+    if silent {
+        Cell::NotEmitted
+    } else {
+        Cell::Absent
+    }
 }
 
 fn repeat<T: Copy + Drop>(alloc: Global, item: T, times: usize) -> Result<List<T>, NoMemory>

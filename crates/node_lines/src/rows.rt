@@ -2,8 +2,6 @@
 
 ghost use Rattle.std.specs.Prelude.{◌≡◌, IfOk, Some, drop, map, slice_get};
 ghost use Rattle.node_lines.specs.Arguments as spec;
-ghost use Rattle.node_lines.specs.Form as lines_of;
-ghost use Rattle.node_lines.specs.Leaves as widths;
 ghost use Rattle.node_lines.specs.Starts as places;
 
 use crate::arguments::{argument_of, is_on};
@@ -64,7 +62,7 @@ fn clocked(
 ) -> Result<List<Option<kahn_model::Cell>>, NoMemory>
     requires begin { starts.now ≡ places.starts params.now }
     requires here { slice_get params.now m ≡ Some t.now }
-    ensures { IfOk result (λ r. r ≡ map (spec.cell_in t.now (lines_of.asked params.now ck.now) (widths.field_of params.now m)) lines.now) }
+    ensures { IfOk result (λ r. r ≡ map (spec.cell_of params.now m t.now ck.now) lines.now) }
 {
     let on = asked(alloc, params, starts, ck)?;
     match starts.get(m) {

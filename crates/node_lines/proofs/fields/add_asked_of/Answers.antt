@@ -1,4 +1,4 @@
-use Rattle.std.specs.Prelude.{refl, length, slice_get}
+use Rattle.std.specs.Prelude.{refl, length}
 use Rattle.std.proofs.lemmas.Option.{slice_get_past, slice_get_read}
 use Rattle.node_lines.proofs.Lists.{none_asked, some_asked, start_at, start_there}
 use Rattle.node_lines.proofs.fields.add_asked_of.Goals as goal

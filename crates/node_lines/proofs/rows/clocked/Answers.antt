@@ -1,9 +1,8 @@
-use Rattle.std.specs.Prelude.{◌≡◌, refl, length, map, slice_get, Some}
+use Rattle.std.specs.Prelude.{◌≡◌, refl, length, map}
 use Rattle.std.proofs.Common.{ap₂, ◌∙◌}
 use Rattle.std.proofs.lemmas.Option.{slice_get_past, slice_get_read}
 use Rattle.node_lines.specs.Arguments as spec
 use Rattle.node_lines.specs.Form.{asked}
-use Rattle.node_lines.specs.Leaves.{field_of}
 use Rattle.node_lines.proofs.Lists.{ok_same, start_at, start_there}
 use Rattle.node_lines.proofs.rows.clocked.Goals as goal
 
