@@ -1,112 +1,58 @@
 //! Which texts are files, where the others stop, and how operators are grouped.
 
 use ls_ast::{DefOf, Expr, File, Form, Plain};
-use ls_base::Line;
+use ls_base::{Line, NoMemory};
 use ls_lexer::lex;
 use ls_ops::Op;
 use ls_parser::{SyntaxFault, parse};
 use std::alloc::Global;
-use std::test::Fail;
 
-// The tree of a text, or the line of the fault.
-fn tree(alloc: Global, text: &str) -> Result<Result<File, u32>, Fail> {
-    if text.len() > 1_000_000 {
-        return Err("too long".into());
+/// What a source is before its names are resolved.
+#[derive(Drop)]
+pub enum Parsed {
+    File(File),
+    /// The line where the text stops being a file.
+    Stopped(u32),
+    /// No tokens, or a text that is too long.
+    Other,
+}
+
+/// The tree of a source.
+pub fn tree(alloc: Global, source: &[u8]) -> Result<Parsed, NoMemory> {
+    if source.len() > 10_000_000 {
+        return Ok(Parsed::Other);
     }
-    let tokens = lex(alloc, text.as_bytes()).ok().ok_or("tokens")?;
+    let Ok(tokens) = lex(alloc, source) else {
+        return Ok(Parsed::Other);
+    };
     match parse(alloc, &tokens) {
-        Ok(file) => Ok(Ok(file)),
-        Err(SyntaxFault::Syntax(Line(line))) => Ok(Err(line)),
-        Err(SyntaxFault::NoMemory) => Err("memory".into()),
+        Ok(file) => Ok(Parsed::File(file)),
+        Err(SyntaxFault::Syntax(Line(line))) => Ok(Parsed::Stopped(line)),
+        Err(SyntaxFault::NoMemory) => Err(NoMemory),
     }
 }
 
-// 0 where the text is a file, and else the line of the fault.
-fn answer(alloc: Global, text: &str) -> Result<u32, Fail> {
-    Ok(match tree(alloc, text)? {
-        Ok(_) => 0,
-        Err(line) => line,
-    })
+/// Whether a source is a file, or the line of the fault.
+fn judged(alloc: Global, source: &[u8]) -> Result<String, NoMemory> {
+    match tree(alloc, source)? {
+        Parsed::File(_) => Ok(String::from_str(alloc, "a file")?),
+        Parsed::Stopped(line) => Ok(format!(in alloc; "stops at line {line}")?),
+        Parsed::Other => Ok(String::from_str(alloc, "no tokens")?),
+    }
 }
 
-// The words between blanks, each in a line of its own.
-fn one_a_line(alloc: Global, text: &str) -> Result<String, Fail> {
+/// The answer for the words between blanks, each in a line of its own.
+pub fn words(alloc: Global, text: &str) -> Result<String, NoMemory> {
     let mut lines = String::new(alloc);
     for word in text.split_whitespace() {
         lines.push_str(word)?;
         lines.push('\n')?;
     }
-    Ok(lines)
+    judged(alloc, lines.as_bytes())
 }
 
-#[test]
-fn accepted_and_refused(rt: HostRuntime) -> Result<(), Fail> {
-    let cases = [
-        ("let f x = x + 1 * 2 - 3", 0),
-        (
-            "let node n x = y where rec y = 0 fby ( y + x ) and clock c = x < 3 and last z = 1 and emit s = x",
-            0,
-        ),
-        ("type t = | A | B let f x = A type u = C", 0),
-        ("let node n c x = merge c ( A -> x ) ( B -> 0 )", 0),
-        ("let node n c x = merge c x 0", 0),
-        ("let node n c x = merge c x ( ( A -> x ) )", 0),
-        ("let node n c x = ( run f x every c ) + ( g x every c )", 0),
-        (
-            "let node n x = y where rec automaton | A -> do y = x until x then B | B -> let rec z = x in do y = z unless x continue A done end",
-            0,
-        ),
-        ("let node n x = y where automaton A -> do done end", 0),
-        (
-            "let node n s x = y where rec present s ( p ) -> do y = p done | x -> do done else do y = 0 done end",
-            0,
-        ),
-        (
-            "let node n s = y where present s ( ( a , b ) ) -> do done end",
-            0,
-        ),
-        (
-            "let node n x = y where rec match x with true -> do y = 1 done | false -> do done | _ -> do y = 2 done end and reset z = 0 and w = 1 every x",
-            0,
-        ),
-        ("let f ( a , ( b , _ ) ) ( ) = ( a , b )", 0),
-        ("let f x = if x then 1 else 2 -> 3", 0),
-        ("let f x = a when c when A ( d ) whenot e", 0),
-        ("let f x = max a ( max b c )", 0),
-        ("let f x = - pre not last x + ? y", 0),
-        ("let f x = y where reset clock c = x every x", 0),
-        ("let f = 1", 0),
-        ("let f x =", 1),
-        ("let f x = x + let g y = y", 1),
-        ("let f x = x )", 1),
-        ("let f x = x let g y = y = y = y", 6),
-        ("let node n = 1", 1),
-        ("let f x = merge c x ( A -> y )", 1),
-        ("let f x = ( f every e )", 1),
-        ("let f x = ( ( f x ) every e )", 1),
-        (
-            "let node n s = y where present s ( a , b ) -> do done end",
-            1,
-        ),
-        ("let node n x = y where match x with _ -> do done end", 1),
-        (
-            "let node n x = y where match x with A -> do clock c = x done end",
-            1,
-        ),
-        ("let node n x = y where automaton A -> do y = x end", 1),
-        ("let node n x = y where match x with A -> do y = x end", 1),
-        ("x", 1),
-        ("type t = A let", 5),
-    ];
-    for (text, line) in cases {
-        let lines = one_a_line(rt.alloc(), text)?;
-        assert_eq!(rt; answer(rt.alloc(), lines.as_str())?, line, "{text}");
-    }
-    Ok(())
-}
-
-// `let f x = front^count x back^count`
-fn repeated(alloc: Global, front: &str, back: &str, count: u32) -> Result<String, Fail> {
+/// `let f x = front^count x back^count`
+fn repeated(alloc: Global, front: &str, back: &str, count: u32) -> Result<String, NoMemory> {
     let mut text = String::from_str(alloc, "let f x = ")?;
     for _ in 0..count {
         text.push_str(front)?;
@@ -118,21 +64,22 @@ fn repeated(alloc: Global, front: &str, back: &str, count: u32) -> Result<String
     Ok(text)
 }
 
-// A definition has height at most 200.
-#[test]
-fn heights(rt: HostRuntime) -> Result<(), Fail> {
-    for (front, back) in [("not ", ""), ("", " + x"), ("(", ")"), ("", " -> x")] {
-        for (count, line) in [(197, 0), (198, 1)] {
-            let text = repeated(rt.alloc(), front, back, count)?;
-            assert_eq!(rt; answer(rt.alloc(), text.as_str())?, line, "{front}{back}");
-        }
-    }
-    let text = repeated(rt.alloc(), "(", "", 100_000)?;
-    assert_eq!(rt; answer(rt.alloc(), text.as_str())?, 1);
-    Ok(())
+/// The answer for such a text, which is told as `COUNT FRONT|BACK`.
+pub fn nested(alloc: Global, told: &str) -> Result<String, NoMemory> {
+    let Some((count, around)) = told.split_once(' ') else {
+        return Ok(String::from_str(alloc, "no count")?);
+    };
+    let Some((front, back)) = around.split_once('|') else {
+        return Ok(String::from_str(alloc, "no bar")?);
+    };
+    let Ok(count) = count.parse::<u32>() else {
+        return Ok(String::from_str(alloc, "no count")?);
+    };
+    let text = repeated(alloc, front, back, count)?;
+    judged(alloc, text.as_bytes())
 }
 
-// The operator of an expression, and its first two operands.
+/// The operator of an expression, and its first two operands.
 fn operation(tree: &Expr<Plain>) -> Option<(Op, &Expr<Plain>, &Expr<Plain>)> {
     match tree.form.get() {
         Form::Op(op, args) => Some((*op, args.get(0)?, args.get(1)?)),
@@ -140,18 +87,22 @@ fn operation(tree: &Expr<Plain>) -> Option<(Op, &Expr<Plain>, &Expr<Plain>)> {
     }
 }
 
-// `a - b - c * d` is `(a - b) - (c * d)`.
-#[test]
-fn grouped(rt: HostRuntime) -> Result<(), Fail> {
-    let Ok(file) = tree(rt.alloc(), "let f x = a - b - c * d")? else {
-        return Err("no file".into());
+/// The operator of an expression, then those of its first two operands.
+fn operators(tree: &Expr<Plain>) -> Option<(Op, Op, Op)> {
+    let (op, left, right) = operation(tree)?;
+    Some((op, operation(left)?.0, operation(right)?.0))
+}
+
+/// The operators of the result of a file's first definition.
+pub fn grouped(alloc: Global, source: &[u8]) -> Result<String, NoMemory> {
+    let Parsed::File(file) = tree(alloc, source)? else {
+        return Ok(String::from_str(alloc, "no file")?);
     };
     let Some(DefOf::Let { body, .. }) = file.defs.get(0) else {
-        return Err("no definition".into());
+        return Ok(String::from_str(alloc, "no definition")?);
     };
-    let (op, left, right) = operation(&body.result).ok_or("no operation")?;
-    assert_eq!(rt; op, Op::Sub);
-    assert_eq!(rt; operation(left).ok_or("left")?.0, Op::Sub);
-    assert_eq!(rt; operation(right).ok_or("right")?.0, Op::Mul);
-    Ok(())
+    match operators(&body.result) {
+        Some((op, left, right)) => Ok(format!(in alloc; "{left:?} {op:?} {right:?}")?),
+        None => Ok(String::from_str(alloc, "no operators")?),
+    }
 }

@@ -1,4 +1,4 @@
-//! What stands where in two bodies, by hand from the definition, and in two large ones.
+//! What stands where in two bodies, and in two large ones.
 
 ghost use Rattle.std.specs.Prelude.{◌≡◌, ◌==◌, true, false, Some, None, if◌then◌else◌};
 
@@ -7,7 +7,6 @@ use ls_base::{Boxed, List, Name, NoMemory, NoteCopy};
 use ls_places::{CasePlaces, NoteSignals, Places, find, variables};
 use ls_sig::SignalNote;
 use std::alloc::Global;
-use std::test::Fail;
 use tree_notes::{Counter, renote_body};
 
 /// A note that says no more than whether the expression is a signal.
@@ -160,92 +159,10 @@ fn second_body(alloc: Global) -> Result<BodyOf<Sig>, NoMemory> {
     })
 }
 
-/// What stands in the first body, which has two parameters.
-const FIRST: &str = "\
-    Places { vars: List { items: [Variable { name: 2, list: List { items: [(2, 0)] }, place: \
-    List { items: [Arm(2, 0)] }, signal: false }, Variable { name: 0, list: List { items: [] }, \
-    place: List { items: [] }, signal: false }, Variable { name: 1, list: List { items: [] }, \
-    place: List { items: [Reset(0)] }, signal: false }] }, sites: List { items: [Site { vars: \
-    List { items: [0] }, right: Part(Var(Name(2)), 1), place: List { items: [Arm(2, 0)] }, \
-    inner: List { items: [] } }, Site { vars: List { items: [1] }, right: Part(Var(Name(0)), \
-    2), place: List { items: [Arm(2, 0)] }, inner: List { items: [(2, 0)] } }, Site { vars: \
-    List { items: [1] }, right: Part(Var(Name(0)), 3), place: List { items: [Arm(2, 1)] }, \
-    inner: List { items: [(2, 1)] } }, Site { vars: List { items: [2] }, right: \
-    Part(Var(Name(1)), 5), place: List { items: [Reset(0)] }, inner: List { items: [] } }] }, \
-    starts: List { items: [Start { name: 0, list: List { items: [] }, right: 6 }] }, names: \
-    List { items: [Match(0, List { items: [Some(3), None] }, List { items: [] })] }, resets: \
-    List { items: [4] }, exprs: List { items: [Whole { expr: Expr { note: Sig(false), form: \
-    Boxed { inner: Var(Name(11)) } }, place: List { items: [] } }, Whole { expr: Expr { note: \
-    Sig(false), form: Boxed { inner: Var(Name(12)) } }, place: List { items: [Arm(2, 0)] } }, \
-    Whole { expr: Expr { note: Sig(false), form: Boxed { inner: Var(Name(13)) } }, place: List \
-    { items: [Arm(2, 0)] } }, Whole { expr: Expr { note: Sig(false), form: Boxed { inner: \
-    Var(Name(14)) } }, place: List { items: [Arm(2, 1)] } }, Whole { expr: Expr { note: \
-    Sig(false), form: Boxed { inner: Var(Name(16)) } }, place: List { items: [] } }, Whole { \
-    expr: Expr { note: Sig(false), form: Boxed { inner: Var(Name(15)) } }, place: List { items: \
-    [Reset(0)] } }, Whole { expr: Expr { note: Sig(false), form: Boxed { inner: Var(Name(17)) } \
-    }, place: List { items: [] } }, Whole { expr: Expr { note: Sig(false), form: Boxed { inner: \
-    Var(Name(18)) } }, place: List { items: [] } }] } }";
-
-/// What stands in the second body, which has one parameter.
-const SECOND: &str = "\
-    Places { vars: List { items: [Variable { name: 0, list: List { items: [] }, place: List { \
-    items: [] }, signal: false }, Variable { name: 2, list: List { items: [(2, 0)] }, place: \
-    List { items: [Arm(2, 0)] }, signal: false }, Variable { name: 6, list: List { items: [(3, \
-    0)] }, place: List { items: [Arm(3, 0)] }, signal: false }, Variable { name: 8, list: List \
-    { items: [] }, place: List { items: [] }, signal: true }, Variable { name: 1, list: List { \
-    items: [] }, place: List { items: [] }, signal: false }, Variable { name: 9, list: List { \
-    items: [] }, place: List { items: [] }, signal: false }, Variable { name: 10, list: List { \
-    items: [] }, place: List { items: [] }, signal: true }] }, sites: List { items: [Site { \
-    vars: List { items: [0] }, right: Part(Var(Name(0)), 0), place: List { items: [Arm(1, 0)] \
-    }, inner: List { items: [(1, 0)] } }, Site { vars: List { items: [1] }, right: \
-    Part(Var(Name(2)), 1), place: List { items: [Arm(2, 0)] }, inner: List { items: [] } }, \
-    Site { vars: List { items: [0] }, right: Part(Var(Name(0)), 4), place: List { items: \
-    [Arm(1, 1)] }, inner: List { items: [(1, 1)] } }, Site { vars: List { items: [2] }, right: \
-    Pattern(7, Var(Name(6))), place: List { items: [Arm(3, 0)] }, inner: List { items: [] } }, \
-    Site { vars: List { items: [3] }, right: Whole(5), place: List { items: [Arm(3, 0)] }, \
-    inner: List { items: [(3, 0)] } }, Site { vars: List { items: [4] }, right: \
-    Part(Var(Name(1)), 6), place: List { items: [Arm(3, 1)] }, inner: List { items: [(3, 1)] } \
-    }, Site { vars: List { items: [5] }, right: Whole(7), place: List { items: [] }, inner: \
-    List { items: [] } }, Site { vars: List { items: [6] }, right: Part(Tuple(List { items: \
-    [Var(Name(10)), Any] }), 8), place: List { items: [] }, inner: List { items: [] } }] }, \
-    starts: List { items: [] }, names: List { items: [Active(List { items: [(20, List { items: \
-    [Transition { cond: 2, restart: true, target: 21 }] }), (21, List { items: [] })] }, List { \
-    items: [] }), Tested(List { items: [(20, List { items: [Transition { cond: 3, restart: \
-    false, target: 21 }] }), (21, List { items: [] })] }, List { items: [] }), Present(List { \
-    items: [7] }, List { items: [] }), Clock(5)] }, resets: List { items: [] }, exprs: List { \
-    items: [Whole { expr: Expr { note: Sig(false), form: Boxed { inner: Var(Name(31)) } }, \
-    place: List { items: [Arm(1, 0)] } }, Whole { expr: Expr { note: Sig(false), form: Boxed { \
-    inner: Var(Name(32)) } }, place: List { items: [Arm(2, 0)] } }, Whole { expr: Expr { note: \
-    Sig(false), form: Boxed { inner: Var(Name(33)) } }, place: List { items: [Arm(2, 0)] } }, \
-    Whole { expr: Expr { note: Sig(false), form: Boxed { inner: Var(Name(34)) } }, place: List \
-    { items: [Arm(1, 0)] } }, Whole { expr: Expr { note: Sig(false), form: Boxed { inner: \
-    Var(Name(35)) } }, place: List { items: [Arm(1, 1)] } }, Whole { expr: Expr { note: \
-    Sig(false), form: Boxed { inner: Var(Name(36)) } }, place: List { items: [Arm(3, 0)] } }, \
-    Whole { expr: Expr { note: Sig(false), form: Boxed { inner: Var(Name(37)) } }, place: List \
-    { items: [Arm(3, 1)] } }, Whole { expr: Expr { note: Sig(false), form: Boxed { inner: \
-    Var(Name(38)) } }, place: List { items: [] } }, Whole { expr: Expr { note: Sig(true), form: \
-    Boxed { inner: Var(Name(39)) } }, place: List { items: [] } }, Whole { expr: Expr { note: \
-    Sig(false), form: Boxed { inner: Var(Name(40)) } }, place: List { items: [] } }] } }";
-
+/// What stands in a body.
 fn text(alloc: Global, first: u32, body: &BodyOf<Sig>) -> Result<String, NoMemory> {
     let found: Places<Sig> = find(alloc, first, &Third(5), &NoteSignals, body)?;
     Ok(format!(in alloc; "{:?}", found)?)
-}
-
-#[test]
-fn match_reset_and_last(rt: HostRuntime) -> Result<(), Fail> {
-    let alloc = rt.alloc();
-    let body = first_body(alloc)?;
-    assert_eq!(rt; text(alloc, 2, &body)?.as_str(), FIRST);
-    Ok(())
-}
-
-#[test]
-fn automaton_present_and_clock(rt: HostRuntime) -> Result<(), Fail> {
-    let alloc = rt.alloc();
-    let body = second_body(alloc)?;
-    assert_eq!(rt; text(alloc, 1, &body)?.as_str(), SECOND);
-    Ok(())
 }
 
 /// How many names the large bodies bind.
@@ -281,43 +198,40 @@ fn many_names(alloc: Global) -> Result<BodyOf<Sig>, NoMemory> {
     })
 }
 
-// The numbers of equations, of variables and of expressions, and of the last equation's variables.
-fn counts(alloc: Global, body: &BodyOf<Sig>) -> Result<[usize; 4], NoMemory> {
+/// The numbers of equations, of variables and of expressions, and of the last equation's variables.
+fn counts(alloc: Global, body: &BodyOf<Sig>) -> Result<String, NoMemory> {
     let found = find(alloc, 0, &Third(5), &NoteSignals, body)?;
     let last = match found.sites.as_slice() {
         [.., site] => site.vars.len(),
         [] => 0,
     };
-    Ok([found.sites.len(), found.vars.len(), found.exprs.len(), last])
+    let (sites, vars, exprs) = (found.sites.len(), found.vars.len(), found.exprs.len());
+    Ok(format!(in alloc; "{sites} {vars} {exprs} {last}")?)
 }
 
-// A quadratic cost would take minutes.
-#[test]
-fn many_equations_and_many_names(rt: HostRuntime) -> Result<(), Fail> {
-    let alloc = rt.alloc();
-    let equations = counts(alloc, &many_equations(alloc)?)?;
-    assert!(rt; equations == [100_000, 100_000, 100_001, 1]);
-    let names = counts(alloc, &many_names(alloc)?)?;
-    assert!(rt; names == [1, 100_000, 2, 100_000]);
-    let found = variables(alloc, 0, &Third(5), &NoteSignals, &many_names(alloc)?)?;
-    assert!(rt; found.place_of(alloc, 99_999, &[])? == Some(99_999));
-    Ok(())
+/// The number of the variable of a name in no arm.
+fn number_of(alloc: Global, name: u32, body: &BodyOf<Sig>) -> Result<String, NoMemory> {
+    let found = variables(alloc, 0, &Third(5), &NoteSignals, body)?;
+    Ok(format!(in alloc; "{:?}", found.place_of(alloc, name, &[])?)?)
 }
 
-// How many notes a body has, as it is rebuilt with their numbers.
-fn renumbered(alloc: Global, body: &BodyOf<Sig>) -> Result<u32, NoMemory> {
+/// How many notes a body has, as it is rebuilt with their numbers.
+fn renumbered(alloc: Global, body: &BodyOf<Sig>) -> Result<String, NoMemory> {
     let mut count = Counter { next: 0 };
     let _numbered: BodyOf<u32> = renote_body(alloc, body, &mut count)?;
-    Ok(count.next)
+    Ok(format!(in alloc; "{}", count.next)?)
 }
 
-// The result, and a right side for each equation, or one tuple with its parts.
-#[test]
-fn large_bodies_rebuilt(rt: HostRuntime) -> Result<(), Fail> {
-    let alloc = rt.alloc();
-    let equations = renumbered(alloc, &many_equations(alloc)?)?;
-    assert!(rt; equations == 100_001);
-    let names = renumbered(alloc, &many_names(alloc)?)?;
-    assert!(rt; names == 100_002);
-    Ok(())
+/// The answer to a question about a body. The first has two parameters and the second one.
+pub fn answer(alloc: Global, of: &str) -> Result<String, NoMemory> {
+    match of {
+        "match, reset and last" => text(alloc, 2, &first_body(alloc)?),
+        "automaton, present and clock" => text(alloc, 1, &second_body(alloc)?),
+        "many equations" => counts(alloc, &many_equations(alloc)?),
+        "many names" => counts(alloc, &many_names(alloc)?),
+        "last of many names" => number_of(alloc, 99_999, &many_names(alloc)?),
+        "many equations rebuilt" => renumbered(alloc, &many_equations(alloc)?),
+        "many names rebuilt" => renumbered(alloc, &many_names(alloc)?),
+        _ => Ok(String::from_str(alloc, "no such question")?),
+    }
 }

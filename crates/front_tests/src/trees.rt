@@ -1,4 +1,4 @@
-//! One tree of each kind, its height counted by hand, and its copy.
+//! One tree of each kind, its height, and its copy.
 
 ghost use Rattle.std.specs.Prelude.{◌≡◌, ◌+◌, max, map, IfOk};
 ghost use Rattle.ls_ast.specs.Height as spec;
@@ -11,7 +11,6 @@ use ls_base::{Boxed, Line, List, Name, Names, NoMemory, NoteCopy};
 use ls_ops::Op;
 use ls_value::Leaf;
 use std::alloc::Global;
-use std::test::Fail;
 
 fn expr(alloc: Global, form: Form<Plain>) -> Result<Expr<Plain>, NoMemory>
     ensures { IfOk result (λ e. spec.expr_height e ≡ spec.form_height form) }
@@ -181,15 +180,15 @@ fn enumeration(alloc: Global) -> Result<Def, NoMemory>
     })
 }
 
-#[test]
-fn heights(rt: HostRuntime) -> Result<(), Fail> {
-    let alloc = rt.alloc();
-    assert_eq!(rt; height(&enumeration(alloc)?), 1);
-    assert_eq!(rt; height(&definition(alloc, List::new(alloc))?), 6);
+/// The heights of `type t = A`, of that definition without an equation, and with one that is as
+/// high as its result.
+fn heights(alloc: Global) -> Result<String, NoMemory> {
+    let cases = height(&enumeration(alloc)?);
+    let bare = height(&definition(alloc, List::new(alloc))?);
     let mut eqs = List::new(alloc);
     eqs.push(Equation::Plain(Pat::Var(Name(1)), result(alloc)?))?;
-    assert_eq!(rt; height(&definition(alloc, eqs)?), 7);
-    Ok(())
+    let one = height(&definition(alloc, eqs)?);
+    Ok(format!(in alloc; "{cases} {bare} {one}")?)
 }
 
 // A match, a present and an automaton.
@@ -212,15 +211,22 @@ fn sample(alloc: Global) -> Result<File, NoMemory> {
     Ok(FileOf { defs, names })
 }
 
-#[test]
-fn copies(rt: HostRuntime) -> Result<(), Fail> {
-    let alloc = rt.alloc();
+/// Whether a copy of a file is shown as the file is, and how it spells two names.
+fn copied(alloc: Global) -> Result<String, NoMemory> {
     let file = sample(alloc)?;
     let twin = file.copy(alloc)?;
     let text = format!(in alloc; "{:?}", file.defs)?;
     let again = format!(in alloc; "{:?}", twin.defs)?;
-    assert_eq!(rt; text.as_str(), again.as_str());
-    assert_eq!(rt; twin.names.spell(Name(0)), Some("x"));
-    assert_eq!(rt; twin.names.spell(Name(1)), None);
-    Ok(())
+    let same = text.as_str() == again.as_str();
+    let (first, second) = (twin.names.spell(Name(0)), twin.names.spell(Name(1)));
+    Ok(format!(in alloc; "{same} {first:?} {second:?}")?)
+}
+
+/// The answer to a question about these trees.
+pub fn answer(alloc: Global, of: &str) -> Result<String, NoMemory> {
+    match of {
+        "heights" => heights(alloc),
+        "copy" => copied(alloc),
+        _ => Ok(String::from_str(alloc, "no such question")?),
+    }
 }
