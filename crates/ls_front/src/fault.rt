@@ -1,5 +1,8 @@
 //! The first judgement that a file fails.
 
+use causality::CauseFault;
+use clock_infer::ClockFault;
+use init_check::InitFault;
 use ls_base::NoMemory;
 use ls_lexer::LexFault;
 use ls_parser::SyntaxFault;
@@ -8,7 +11,7 @@ use thiserror::Error;
 use type_infer::TypeFault;
 
 /// The first judgement that a file fails, with its fault; a fault inside is never want of memory.
-#[derive(Clone, Copy, Debug, PartialEq, Eq, Error)]
+#[derive(Debug, Drop, Error)]
 pub enum FrontFault {
     /// The text is no row of tokens.
     #[error("the text is no row of tokens")]
@@ -22,6 +25,15 @@ pub enum FrontFault {
     /// A definition has no types.
     #[error("a definition is not well typed")]
     Types(TypeFault),
+    /// A definition has no clocks.
+    #[error("a definition is not well clocked")]
+    Clocks(ClockFault),
+    /// A stream may be used where it is not defined yet.
+    #[error("a definition is not initialised")]
+    Init(InitFault),
+    /// Streams wait for one another within an instant.
+    #[error("a definition is not causal")]
+    Cause(CauseFault),
     /// A block of memory was refused.
     #[error("out of memory")]
     NoMemory,

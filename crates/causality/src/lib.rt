@@ -1,0 +1,6 @@
+//! stub
+#![tactic(auto)]
+
+mod file;
+
+pub use file::{CauseFault, check_causality};
