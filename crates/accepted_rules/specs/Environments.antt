@@ -1,5 +1,5 @@
 -- Well-formed environments: what stands before a file and was accepted, or could have been.
-use Rattle.std.specs.Prelude.{◌≡◌, ◌≢◌, ℕ, suc, ◌<◌, ◌≤◌, ◌+◌, ◌&&◌, ◌||◌, Bool, true, false, not, List, [], ◌∷◌, ◌++◌, map, length, nat_le, nat_lt, slice_get, codes, Option, Some, None}
+use Rattle.std.specs.Prelude.{◌≡◌, ◌≢◌, ℕ, ◌<◌, ◌≤◌, ◌&&◌, ◌||◌, Bool, true, false, not, List, [], ◌∷◌, ◌++◌, map, length, nat_le, nat_lt, slice_get, codes, Option, Some, None}
 use Rattle.ls_ast.specs.declared.tree.Mark.{Mark}
 use Rattle.ls_ast.specs.declared.tree.Mark.TheVariants as mark
 use Rattle.ls_base.specs.declared.Line.{Line}
@@ -64,12 +64,12 @@ definition_names env = map {A = Sig} {B = Name} (λ s. s.name) env.sigs
 
 -- enumerations, constructors and definitions are spelled as a file spells them, each distinct in its kind
 pub record NamesObey (env : Env) : Type 0 where
-  pub enums : Each (λ x. IsId env x × IsNoBasicType env x) (enum_names env)
+  pub enums_spelled : Each (λ x. IsId env x × IsNoBasicType env x) (enum_names env)
   pub enums_apart : apart (enum_names env) ≡ true
   pub some_constructor : Each (λ (e : Name × List Name). e.1 ≢ []) env.enums
-  pub constructors : Each (IsConstructor env) (constructors env)
+  pub constructors_spelled : Each (IsConstructor env) (constructors env)
   pub constructors_apart : apart (constructors env) ≡ true
-  pub definitions : Each (IsId env) (definition_names env)
+  pub definitions_spelled : Each (IsId env) (definition_names env)
   pub definitions_apart : apart (definition_names env) ≡ true
 
 -- ---- 2, 3 and 5. the form of types
