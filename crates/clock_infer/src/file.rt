@@ -1,8 +1,8 @@
 //! stub
 
-ghost use Rattle.std.specs.Prelude.{◌≡◌, [], map, IfOk, IsErrOf};
+ghost use Rattle.std.specs.Prelude.{◌≡◌, [], map, IfOk, IfErr};
 ghost use Rattle.clock_rules.specs.Files.{FirstIllClocked, Judged, with_schemes};
-ghost use Rattle.clock_infer.specs.declared.file.ClockFault.TheVariants.{IllClocked};
+ghost use Rattle.clock_infer.specs.Filed as spec;
 ghost use Rattle.clock_rules.specs.Fresh.{erase};
 ghost use Rattle.ls_places.specs.Definitions.{case_place};
 ghost use Rattle.ls_sig.specs.declared.binder.Note.{Note};
@@ -27,7 +27,7 @@ pub fn infer_clocks(_alloc: Global, file: &Typed) -> Result<Ann, ClockFault>
     ensures same { IfOk result (λ ann. map (λ d. in_definition Note TypeNote erase d) ann.defs ≡ file.now.defs) }
     ensures names { IfOk result (λ ann. ann.names ≡ file.now.names) }
     ensures principal { IfOk result (λ ann. Judged (case_place file.now.defs) [] ann.defs) }
-    ensures refused { IsErrOf result IllClocked (λ line. FirstIllClocked (case_place file.now.defs) [] file.now.defs line.0) }
+    ensures refused { IfErr result (λ f. spec.AtLine f (FirstIllClocked (case_place file.now.defs) [] file.now.defs)) }
 {
     Err(ClockFault::NoMemory)
 }
