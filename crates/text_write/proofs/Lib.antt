@@ -1,2 +1,0 @@
-mod Puts
-pub mod Writing
