@@ -4,8 +4,8 @@ use Rattle.std.proofs.Common.{ap, sym, ◌∙◌, drop, get_or, append_assoc, �
 use Rattle.ls_base.proofs.Built.{rest}
 use Rattle.accepted_rules.specs.declared.accepted.Accepted.{Accepted}
 use Rattle.ls_sig.specs.declared.sigs.Sig.{Sig}
-use Rattle.type_schemes.specs.Texts.{Prints}
-use Rattle.type_schemes.proofs.Writing.{Halfway, prints_more}
+use Rattle.text_write.specs.Writes.{Prints}
+use Rattle.text_write.proofs.Writing.{Halfway, prints_more}
 use Rattle.lsc_cli.specs.declared.status.Status.{Status}
 use Rattle.lsc_cli.specs.declared.status.Status.TheVariants as statuses
 use Rattle.lsc_cli.specs.Check.{IsCheck, IsChecked, all_lines, signature_lines}

@@ -2,7 +2,7 @@ use Rattle.std.proofs.Common.{ap, sym, drop, ◌∙◌, length}
 use Rattle.std.proofs.lemmas.List.{drop_all}
 use Rattle.std.specs.Prelude.{true}
 use Rattle.lsc_cli.specs.Check.{all_lines, check_lines}
-use Rattle.type_schemes.proofs.Writing.{halfway_start, halfway_end}
+use Rattle.text_write.proofs.Writing.{halfway_start, halfway_end}
 use Rattle.lsc_cli.proofs.SignatureLines.{line_turn}
 use Rattle.lsc_cli.proofs.check.write_signatures.Goals as goal
 

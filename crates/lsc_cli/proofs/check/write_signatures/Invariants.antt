@@ -1,6 +1,6 @@
 use Rattle.std.proofs.Common.{drop, true}
 use Rattle.lsc_cli.specs.Check.{all_lines, check_lines}
-use Rattle.type_schemes.proofs.Writing.{Halfway}
+use Rattle.text_write.proofs.Writing.{Halfway}
 use Rattle.lsc_cli.proofs.check.write_signatures.Given as goal
 
 abbrev pub invariant-loop-sig : goal.invariant-loop-sig
