@@ -67,7 +67,7 @@ init_fails typed ann c (fails.Lex f) h = (ann, c, h)
 init_fails typed ann c (fails.Syntax f) h = (ann, c, h)
 init_fails typed ann c (fails.Scope f) h = (ann, c, h)
 init_fails typed ann c (fails.Types f) h = (ann, c, h)
-init_fails typed ann c (fails.Clocks f) (inits, i, no) = absurd no
+init_fails typed ann c (fails.Clocks f) (inits, i, never) = absurd never
 
 pub clocks_fail : (file : FileOf Use) (typed : FileOf TypeNote) (sigs : List Sig) → AreTypes file typed sigs → (f : FrontFault) → ClocksFail typed f → TypesFail file f
 clocks_fail file typed sigs t (fails.Cause f) h = (typed, sigs, t, h)
@@ -77,7 +77,7 @@ clocks_fail file typed sigs t fails.NoMemory h = tt
 clocks_fail file typed sigs t (fails.Lex f) h = (typed, sigs, t, h)
 clocks_fail file typed sigs t (fails.Syntax f) h = (typed, sigs, t, h)
 clocks_fail file typed sigs t (fails.Scope f) h = (typed, sigs, t, h)
-clocks_fail file typed sigs t (fails.Types f) (ann, c, inits, i, no) = absurd no
+clocks_fail file typed sigs t (fails.Types f) (ann, c, inits, i, never) = absurd never
 
 pub blamed_at : (file : FileOf Plain) (f : ScopeFault) → f ≢ scope.NoMemory → Blames f (scope_fault empty file) → BlamedAt file f
 blamed_at file (scope.Twice line) some b = b
@@ -95,7 +95,7 @@ later_fails file fine (fails.Cause f) h = (fine, h)
 later_fails file fine fails.NoMemory h = tt
 later_fails file fine (fails.Lex f) h = (fine, h)
 later_fails file fine (fails.Syntax f) h = (fine, h)
-later_fails file fine (fails.Scope f) (typed, sigs, t, ann, c, inits, i, no) = absurd no
+later_fails file fine (fails.Scope f) (typed, sigs, t, ann, c, inits, i, never) = absurd never
 
 -- ---- all judgements hold
 
