@@ -1,6 +1,6 @@
 -- What tells whether a clock is on is there, where the names that it is sampled on are.
-use Rattle.std.specs.Prelude.{◌≡◌, refl, ℕ, zero, suc, ◌+◌, ◌-◌, ◌==◌, ◌<◌, ◌≤◌, ◌&&◌, Bool, true, false, List, [], ◌∷◌, ◌++◌, map, length, Option, Some, None, if◌then◌else◌, nat_lt}
-use Rattle.std.proofs.Common.{ap, ap₂, sym, ◌∙◌, subst, arith}
+use Rattle.std.specs.Prelude.{◌≡◌, refl, ℕ, suc, ◌+◌, ◌-◌, ◌==◌, ◌<◌, ◌≤◌, ◌&&◌, Bool, true, false, List, [], ◌∷◌, ◌++◌, map, length, Option, Some, None, if◌then◌else◌, nat_lt}
+use Rattle.std.proofs.Common.{sym, subst, arith}
 use Rattle.ls_terms.specs.declared.clocks.ClockTerm.{ClockTerm, fold-roll-ClockTerm, ind-ClockTerm, map-ClockTerm, roll-ClockTerm}
 use Rattle.ls_terms.specs.declared.clocks.ClockTerm.TheOpen.{ClockTerm-F}
 use Rattle.ls_sig.specs.declared.binder.Note.{Note}

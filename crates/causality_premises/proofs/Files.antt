@@ -1,6 +1,6 @@
 -- The definitions of an annotated file, one after the other.
-use Rattle.std.specs.Prelude.{◌≡◌, refl, ℕ, suc, Bool, true, false, List, [], ◌∷◌, map, length, Option}
-use Rattle.std.proofs.Common.{ap, sym, ◌∙◌, subst, arith}
+use Rattle.std.specs.Prelude.{◌≡◌, ℕ, Bool, true, false, List, [], ◌∷◌, map, length, Option}
+use Rattle.std.proofs.Common.{ap, sym, subst, arith}
 use Rattle.ls_base.specs.declared.Name.{Name}
 use Rattle.ls_ast.specs.declared.tree.BodyOf.{BodyOf}
 use Rattle.ls_ast.specs.declared.tree.DefOf.{DefOf}
@@ -20,7 +20,7 @@ use Rattle.scope_rules.specs.After as After
 use Rattle.scope_rules.specs.Claims.{Known}
 use Rattle.scope_rules.specs.Faults.{Judged}
 use Rattle.scope_rules.specs.File.{known_after}
-use Rattle.scope_rules.specs.Resolved.{resolved_def, resolved_defs, resolved_body}
+use Rattle.scope_rules.specs.Resolved.{resolved_defs, resolved_body}
 use Rattle.causality_links.specs.Close.{Scoped}
 use Rattle.causality_premises.specs.Premises.{ClocksKnown, use_of}
 use Rattle.causality_premises.proofs.Scope.{reads_scoped}

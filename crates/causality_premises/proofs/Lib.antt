@@ -1,5 +1,5 @@
 mod Clocks
 mod Files
 mod Found
-mod Scope
+pub mod Scope
 mod Within

@@ -1,6 +1,6 @@
 -- What stands in the body of a resolved definition names what is there.
 use Rattle.std.specs.Prelude.{◌≡◌, refl, ℕ, zero, suc, ◌+◌, ◌<◌, ◌≤◌, Bool, List, [], ◌∷◌, ◌++◌, map, length, slice_get, Option, Some, None}
-use Rattle.std.proofs.Common.{ap, ap₂, sym, ◌∙◌, subst, arith, get_or}
+use Rattle.std.proofs.Common.{ap, sym, ◌∙◌, subst, arith, get_or}
 use Rattle.std.proofs.lemmas.List.Elements.{All-get_or}
 use Rattle.ls_ast.specs.declared.tree.BodyOf.{BodyOf}
 use Rattle.ls_ast.specs.declared.tree.Expr.{Expr}
@@ -14,7 +14,6 @@ use Rattle.ls_places.specs.Definitions.{definition_of}
 use Rattle.ls_places.specs.Places as F
 use Rattle.ls_places.specs.Search.{count_up, nth}
 use Rattle.ls_places.specs.Ranges.{NamedBelow}
-use Rattle.ls_places.specs.declared.places.Named.{Named}
 use Rattle.ls_places.specs.declared.places.Named.TheVariants as named
 use Rattle.ls_places.proofs.Ranged.{found_in_range}
 use Rattle.ls_terms.specs.declared.clocks.ClockTerm.{ClockTerm}
@@ -37,7 +36,7 @@ use Rattle.scope_rules.proofs.AsFound.{exprs_alike, variables_alike}
 use Rattle.scope_rules.proofs.InSight.{uses_in_sight}
 use Rattle.type_premises.proofs.Trees as Tr
 use Rattle.causality_links.specs.Close.{Scoped}
-use Rattle.causality_premises.specs.Premises.{There, BoundThere, NoteThere, ClockThere, ClockKnown, NoteKnown, ClocksKnown, PlaceThere, AllThere, WholeThere, Ranges, use_of}
+use Rattle.causality_premises.specs.Premises.{There, BoundThere, NoteThere, ClockThere, ClockKnown, NoteKnown, ClocksKnown, PlaceThere, AllThere, WholeThere, use_of}
 use Rattle.causality_premises.proofs.Clocks.{clock_there}
 use Rattle.causality_premises.proofs.Found as Fo
 use Rattle.causality_premises.proofs.Within.{scoped, arms_there, same_number, has_left, has_right, keys_in}

@@ -1,11 +1,11 @@
 -- What the model reads of a body that names what is there is there.
 use Rattle.std.specs.Prelude.{◌≡◌, refl, ℕ, zero, suc, ◌+◌, ◌-◌, ◌==◌, ◌≤◌, Bool, true, false, List, [], ◌∷◌, ◌++◌, map, length, Option, Some, None, if◌then◌else◌, nat_lt, ◌&&◌}
-use Rattle.std.proofs.Common.{ap, ap₂, sym, ◌∙◌, subst, inl, inr, arith}
+use Rattle.std.proofs.Common.{ap, sym, ◌∙◌, subst, inl, inr, arith}
 use Rattle.std.proofs.lemmas.Bool.{cases_lt, eq-eqb, lt-ltb}
 use Rattle.ls_value.specs.declared.leaf.Leaf.TheVariants as leaf
 use Rattle.ls_ast.specs.declared.tree.Case.{Case}
 use Rattle.ls_ast.specs.declared.tree.Expr.{Expr, Expr-F, fold_out-Expr}
-use Rattle.ls_ast.specs.declared.tree.Form.{Form, fold-Form, fold-roll-Form}
+use Rattle.ls_ast.specs.declared.tree.Form.{fold-roll-Form}
 use Rattle.ls_ast.specs.declared.tree.Form.TheOpen.{Form-F}
 use Rattle.ls_ast.specs.declared.tree.Form.TheVariants as form
 use Rattle.ls_ast.specs.declared.tree.Pat.{Pat}
@@ -15,10 +15,10 @@ use Rattle.ls_terms.specs.declared.clocks.ClockTerm.TheOpen.{ClockTerm-F}
 use Rattle.ls_sig.specs.declared.binder.Binder.{Binder}
 use Rattle.ls_sig.specs.declared.binder.Binder.TheVariants as b
 use Rattle.ls_sig.specs.declared.binder.Note.{Note}
-use Rattle.ls_places.specs.Clocks.{bare, bare_step, below, below_open, clock_depth, clocks_in, clocks_form, clocks_expr, noted, or_else, is_function, choice_parts, option_part}
+use Rattle.ls_places.specs.Clocks.{bare, bare_step, below, below_open, clock_depth, clocks_in, clocks_form, clocks_expr, noted, or_else, choice_parts}
 use Rattle.ls_places.specs.Patterns.{joined, has_name, names_of}
 use Rattle.ls_places.specs.Places.{Place, InnerArm, arms}
-use Rattle.ls_places.specs.Search.{E, nth, all_clocks, arms_within, lacks, list_of, mode_clock, never, param_clock, count_up, signal_arms, signal_at, signal_in, signal_list, sites_of, starts_with, start_of, tested_outside, whole_at, whole_of}
+use Rattle.ls_places.specs.Search.{nth, all_clocks, arms_within, lacks, mode_clock, never, param_clock, count_up, signal_arms, signal_at, signal_in, signal_list, sites_of, starts_with, start_of, tested_outside, whole_at, whole_of}
 use Rattle.ls_places.specs.declared.places.Frame.TheVariants as frame
 use Rattle.ls_places.specs.declared.places.Named.{Named}
 use Rattle.ls_places.specs.declared.places.Named.TheVariants as named
@@ -42,7 +42,7 @@ use Rattle.kahn_model.specs.Reads.{Shape, Needs, Formed, Reading, nothing, now_o
 use Rattle.kahn_model.specs.Table.{row_keys, same_key}
 use Rattle.causality_links.specs.Close.{Scoped}
 use Rattle.causality_links.proofs.Causes.{block_name}
-use Rattle.causality_premises.specs.Premises.{There, AllThere, ClockThere, BoundThere, NoteThere, PlaceThere, ArmsThere, NamesThere, WholeThere, SiteThere, VariableThere, Ranges}
+use Rattle.causality_premises.specs.Premises.{There, AllThere, ClockThere, BoundThere, NoteThere, NamesThere, WholeThere, SiteThere, VariableThere, Ranges}
 
 each_left : {A : Type 0} (Q : A → Type 0) (xs ys : List A) → Each Q (xs ++ ys) → Each Q xs
 each_left Q [] ys a = tt

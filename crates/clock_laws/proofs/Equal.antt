@@ -102,8 +102,8 @@ some_at [] k l = absurd (omega (arith, l))
 some_at (x ∷ xs) zero l = (x, refl)
 some_at (x ∷ xs) (suc k) l = some_at xs k (omega (arith, l))
 
-clocks_nth : (ns : List Note) (k : ℕ) (n : Note) → nth ns k ≡ Some n → at (note_clocks ns) k ≡ n.ck
-clocks_nth ns k n e = ap (λ o. unwrap_or o pointwise) (nth_map (λ (n : Note). n.ck) ns k ∙ ap (option_map (λ (n : Note). n.ck)) e)
+clocks_nth : (ns : List Note) (k : ℕ) (n : Note) → nth ns k ≡ Some n → nth (note_clocks ns) k ≡ Some n.ck
+clocks_nth ns k n e = nth_map (λ (n : Note). n.ck) ns k ∙ ap (option_map (λ (n : Note). n.ck)) e
 
 if_true : {A : Type 0} (t : Bool) (x y : A) → t ≡ true → (if t then x else y) ≡ x
 if_true true x y e = refl
@@ -150,7 +150,7 @@ module _ (schemes : List ClockScheme) (cases : ℕ → Option ℕ) (d : Facts No
   abbrev pub C : Clocks
   C = record { vars = map shrink cs.vars; blocks = map shrink cs.blocks }
 
-  good : (t : ClockTerm) (m k : ℕ) → t ≡ own d cs m → on (shrink t) m k ≡ shrink (on t m k)
+  good : (t : ClockTerm) (m k : ℕ) → Some t ≡ own d cs m → on (shrink t) m k ≡ shrink (on t m k)
   good t m k e = sym (Sh.shrink_good (own d cs) t m k e)
 
   pub at_shrunk : (xs : List ClockTerm) (k : ℕ) → at (map shrink xs) k ≡ shrink (at xs k)
@@ -207,23 +207,23 @@ module _ (schemes : List ClockScheme) (cases : ℕ → Option ℕ) (d : Facts No
 
   -- a clock name's clock is that of what the name means
   abbrev Means : Binder → ℕ → Type 0
-  Means bound r = (m : Home) × (R.meaning schemes cases d cs bound ≡ Some m) × (own d cs r ≡ m.0)
+  Means bound r = (m : Home) × (R.meaning schemes cases d cs bound ≡ Some m) × (own d cs r ≡ Some m.0)
 
-  own_var : (r k : ℕ) → clock_name k d.names (length d.params) ≡ Some r → own d cs r ≡ at cs.vars k
+  own_var : (r k : ℕ) → clock_name k d.names (length d.params) ≡ Some r → own d cs r ≡ Some (at cs.vars k)
   own_var r k e =
       let q = clock_named k d.names (length d.params) r e in
       let l = q.0 in
-      if_false (nat_lt r (length d.params)) (at (note_clocks d.notes) r) (named_clock cs (r - length d.params) (nth d.names (r - length d.params))) (lt_false r (length d.params) l)
+      if_false (nat_lt r (length d.params)) (nth (note_clocks d.notes) r) (named_clock cs (r - length d.params) (nth d.names (r - length d.params))) (lt_false r (length d.params) l)
       ∙ ap (named_clock cs (r - length d.params)) q.1
 
-  own_param : (r k : ℕ) → param_at k d.params 0 ≡ Some r → (n : Note) × (nth d.notes r ≡ Some n) × (own d cs r ≡ n.ck)
+  own_param : (r k : ℕ) → param_at k d.params 0 ≡ Some r → (n : Note) × (nth d.notes r ≡ Some n) × (own d cs r ≡ Some n.ck)
   own_param r k e =
       let l = after_within d.params k 0 r e in
       let m = scoped.many in
       let q = some_at d.notes r (omega (arith, l, m)) in (
         q.0,
         q.1,
-        if_true (nat_lt r (length d.params)) (at (note_clocks d.notes) r) (named_clock cs (r - length d.params) (nth d.names (r - length d.params))) (lt_true r (length d.params) (omega (arith, l)))
+        if_true (nat_lt r (length d.params)) (nth (note_clocks d.notes) r) (named_clock cs (r - length d.params) (nth d.names (r - length d.params))) (lt_true r (length d.params) (omega (arith, l)))
             ∙ clocks_nth d.notes r q.0 q.1,
       )
 
@@ -236,14 +236,14 @@ module _ (schemes : List ClockScheme) (cases : ℕ → Option ℕ) (d : Facts No
   means (b.Def k) r e = absurd (cc)
   means (b.Case t k) r e = absurd (cc)
 
-  own_block : (m : ℕ) → S.is_block schemes d m ≡ true → own d cs m ≡ R.block schemes cases d cs m
+  own_block : (m : ℕ) → S.is_block schemes d m ≡ true → own d cs m ≡ Some (R.block schemes cases d cs m)
   own_block m e =
       let p = and_parts (not (nat_lt m (length d.params))) (S.no_clock (nth d.names (m - length d.params))) e in
-      if_false (nat_lt m (length d.params)) (at (note_clocks d.notes) m) (named_clock cs (m - length d.params) (nth d.names (m - length d.params))) (not_true (nat_lt m (length d.params)) p.0)
+      if_false (nat_lt m (length d.params)) (nth (note_clocks d.notes) m) (named_clock cs (m - length d.params) (nth d.names (m - length d.params))) (not_true (nat_lt m (length d.params)) p.0)
       ∙ by_name (nth d.names (m - length d.params)) p.1
     where
-      by_name : (o : Option Named) → S.no_clock o ≡ true → named_clock cs (m - length d.params) o ≡ at cs.blocks (m - length d.params)
-      by_name None f = refl
+      by_name : (o : Option Named) → S.no_clock o ≡ true → named_clock cs (m - length d.params) o ≡ Some (at cs.blocks (m - length d.params))
+      by_name None f = absurd (cc)
       by_name (Some (named.Clock x)) f = absurd (cc)
       by_name (Some (named.Match k all p)) f = refl
       by_name (Some (named.Present xs p)) f = refl
@@ -258,7 +258,7 @@ module _ (schemes : List ClockScheme) (cases : ℕ → Option ℕ) (d : Facts No
   borders_equal : (ck : ClockTerm) (p : List InnerArm) → Armed p → AreEqual (R.borders schemes cases d cs ck p) → AreEqual (R.borders schemes cases D C (shrink ck) p) × (sampled (shrink ck) p ≡ shrink (sampled ck p))
   borders_equal ck [] a h = (tt, refl)
   borders_equal ck (c ∷ p) a h =
-      let e = good ck c.0 c.1 (h.0 ∙ sym (own_block c.0 a.0)) in
+      let e = good ck c.0 c.1 (ap Some h.0 ∙ sym (own_block c.0 a.0)) in
       let r = borders_equal (on ck c.0 c.1) p a.1 h.1 in
       ((ap shrink h.0 ∙ sym (block_clock c.0), subst (λ z. AreEqual (R.borders schemes cases D C z p)) (sym e) r.0), ap (λ z. sampled z p) e ∙ r.1)
 
@@ -283,11 +283,11 @@ module _ (schemes : List ClockScheme) (cases : ℕ → Option ℕ) (d : Facts No
       (opt_equal J (λ m. (m.0, ck) ∷ []) (λ m. (m.0, shrink ck) ∷ []) (λ m f. (ap shrink f.0, tt)) (R.meaning schemes cases d cs bound) h)
 
   -- the clock of what is sampled is the name's own
-  condition_own : (bound : Binder) (r : ℕ) (ck : ClockTerm) → S.number schemes d bound ≡ Some r → AreEqual (R.condition schemes cases d cs bound ck) → ck ≡ own d cs r
+  condition_own : (bound : Binder) (r : ℕ) (ck : ClockTerm) → S.number schemes d bound ≡ Some r → AreEqual (R.condition schemes cases d cs bound ck) → Some ck ≡ own d cs r
   condition_own bound r ck e h =
       let m = means bound r e in
       let f = subst (λ o. AreEqual (opt_pairs o (λ (z : Home). (z.0, ck) ∷ []))) m.1 h in
-      sym f.0 ∙ sym m.2
+      ap Some (sym f.0) ∙ sym m.2
 
   -- ---- calls
 
@@ -359,16 +359,16 @@ module _ (schemes : List ClockScheme) (cases : ℕ → Option ℕ) (d : Facts No
 
     module _ (s : ClockScheme) (args : List Note) (meets : AreEqual (R.meet schemes cases d cs (R.instances schemes cases d cs by args s.clocks) args))
         (names : AreEqual (R.named_pairs schemes cases d cs args s.names)) (gives : Each (λ q. S.IsNameAt schemes d (nth args q)) s.names) where
-      own_given : (z : ClockTerm × ℕ) → InScheme s z → inst args z.0 ≡ own d cs (R.given_names schemes cases d cs args z.1)
+      own_given : (z : ClockTerm × ℕ) → InScheme s z → Some (inst args z.0) ≡ own d cs (R.given_names schemes cases d cs args z.1)
       own_given z h = by_arg (nth args z.1) refl (each_named (λ q. S.IsNameAt schemes d (nth args q)) z.1 s.names gives h.1)
         where
-          by_arg : (o : Option Note) → nth args z.1 ≡ o → S.IsNameAt schemes d o → inst args z.0 ≡ own d cs (R.given_names schemes cases d cs args z.1)
+          by_arg : (o : Option Note) → nth args z.1 ≡ o → S.IsNameAt schemes d o → Some (inst args z.0) ≡ own d cs (R.given_names schemes cases d cs args z.1)
           by_arg None e g = absurd g
           by_arg (Some n) e g =
               let a : inst args z.0 ≡ n.ck = meet_at (R.instances schemes cases d cs by args s.clocks) args z.1 (inst args z.0) n meets (nth_map (inst args) s.clocks z.1 ∙ ap (option_map (inst args)) h.0) e in
-              let c : n.ck ≡ own d cs g.0 = condition_own n.bound g.0 n.ck g.1 (named_at args z.1 s.names n names h.1 e) in
+              let c : Some n.ck ≡ own d cs g.0 = condition_own n.bound g.0 n.ck g.1 (named_at args z.1 s.names n names h.1 e) in
               let f : R.given_names schemes cases d cs args z.1 ≡ g.0 = ap (λ o. unwrap_or (option_map (λ (n : Note). R.number_or schemes cases d cs n.bound) o) 0) e ∙ number_is n.bound g.0 g.1 in
-              a ∙ c ∙ ap (own d cs) (sym f)
+              ap Some a ∙ c ∙ ap (own d cs) (sym f)
 
       abbrev Inst : ClockTerm → Type 0
       Inst t = Each (InScheme s) (samplings t) → inst' args t ≡ shrink (inst args t)
@@ -466,12 +466,12 @@ module _ (schemes : List ClockScheme) (cases : ℕ → Option ℕ) (d : Facts No
 
       -- ---- expressions
 
-      branches_equal : (ck : ClockTerm) (m m' : ℕ) → m' ≡ m → ck ≡ own d cs m → (all : List (Case × Note)) → AreEqual (R.branch_pairs schemes cases d cs ck m all) → AreEqual (R.branch_pairs schemes cases D C (shrink ck) m' (map_choices N all))
+      branches_equal : (ck : ClockTerm) (m m' : ℕ) → m' ≡ m → Some ck ≡ own d cs m → (all : List (Case × Note)) → AreEqual (R.branch_pairs schemes cases d cs ck m all) → AreEqual (R.branch_pairs schemes cases D C (shrink ck) m' (map_choices N all))
       branches_equal ck m m' e o [] h = tt
       branches_equal ck m m' e o (c ∷ all) h =
           (ap shrink h.0 ∙ sym (good ck m (R.case_number schemes cases d cs c.0) o) ∙ ap (λ z. on (shrink ck) z (R.case_number schemes cases d cs c.0)) (sym e), branches_equal ck m m' e o all h.1)
 
-      own_number : (bound : Binder) (ck : ClockTerm) → S.IsName schemes d bound → AreEqual (R.condition schemes cases d cs bound ck) → ck ≡ own d cs (R.number_or schemes cases d cs bound)
+      own_number : (bound : Binder) (ck : ClockTerm) → S.IsName schemes d bound → AreEqual (R.condition schemes cases d cs bound ck) → Some ck ≡ own d cs (R.number_or schemes cases d cs bound)
       own_number bound ck g h = condition_own bound g.0 ck g.1 h ∙ ap (own d cs) (sym (number_is bound g.0 g.1))
 
       form_equal : (p : Place) (n : Note) (holds : Bool) (x : Form-F Note (Unit {0}) Note) → Armed (arms p) → S.FormScoped schemes d n x
@@ -563,14 +563,14 @@ module _ (schemes : List ClockScheme) (cases : ℕ → Option ℕ) (d : Facts No
       (R.whole_pairs schemes cases D C g.cond (λ n. (n.ck, shrink ck) ∷ [])) (R.conditions_on schemes cases D C (shrink ck) gs) h
       (whole_equal g.cond (λ n. (n.ck, ck) ∷ []) (λ n. (n.ck, shrink ck) ∷ []) (λ n f. (ap shrink f.0, tt))) (conditions_equal ck gs)
 
-  guards_equal : (ck : ClockTerm) (m s : ℕ) → ck ≡ own d cs m → (all : List (ℕ × List Transition)) → AreEqual (R.guard_pairs schemes cases d cs ck m s all) → AreEqual (R.guard_pairs schemes cases D C (shrink ck) m s all)
+  guards_equal : (ck : ClockTerm) (m s : ℕ) → Some ck ≡ own d cs m → (all : List (ℕ × List Transition)) → AreEqual (R.guard_pairs schemes cases d cs ck m s all) → AreEqual (R.guard_pairs schemes cases D C (shrink ck) m s all)
   guards_equal ck m s o [] h = tt
   guards_equal ck m s o (gs ∷ all) h =
       both_equal (R.conditions_on schemes cases d cs (on ck m s) gs.1) (R.guard_pairs schemes cases d cs ck m (suc s) all)
       (R.conditions_on schemes cases D C (on (shrink ck) m s) gs.1) (R.guard_pairs schemes cases D C (shrink ck) m (suc s) all) h
       (λ k. subst (λ z. AreEqual (R.conditions_on schemes cases D C z gs.1)) (sym (good ck m s o)) (conditions_equal (on ck m s) gs.1 k)) (guards_equal ck m (suc s) o all)
 
-  guards_named : (ck ck' : ClockTerm) (m s : ℕ) → ck' ≡ shrink ck → ck ≡ own d cs m → (all : List (ℕ × List Transition)) → AreEqual (R.guard_pairs schemes cases d cs ck m s all) → AreEqual (R.guard_pairs schemes cases D C ck' m s all)
+  guards_named : (ck ck' : ClockTerm) (m s : ℕ) → ck' ≡ shrink ck → Some ck ≡ own d cs m → (all : List (ℕ × List Transition)) → AreEqual (R.guard_pairs schemes cases d cs ck m s all) → AreEqual (R.guard_pairs schemes cases D C ck' m s all)
   guards_named ck ck' m s e o all h = subst (λ z. AreEqual (R.guard_pairs schemes cases D C z m s all)) (sym e) (guards_equal ck m s o all h)
 
   -- the names from this number on
@@ -606,8 +606,8 @@ module _ (schemes : List ClockScheme) (cases : ℕ → Option ℕ) (d : Facts No
       let B = R.block schemes cases d cs in
       let e : suc m - 1 ≡ m = omega arith in
       let same : B (suc m) ≡ B m = h.0 in
-      let o : B m ≡ own d cs (suc m) = sym same ∙ sym (own_block (suc m) (block_here (suc m) (named.Tested all' p') ns f' refl)) in
-      let o' : B (suc m) ≡ own d cs (suc m - 1) = same ∙ sym (own_block m (block_here m (named.Active all p) (named.Tested all' p' ∷ ns) f refl)) ∙ ap (own d cs) (sym e) in (
+      let o : Some (B m) ≡ own d cs (suc m) = ap Some (sym same) ∙ sym (own_block (suc m) (block_here (suc m) (named.Tested all' p') ns f' refl)) in
+      let o' : Some (B (suc m)) ≡ own d cs (suc m - 1) = ap Some same ∙ sym (own_block m (block_here m (named.Active all p) (named.Tested all' p' ∷ ns) f refl)) ∙ ap (own d cs) (sym e) in (
         block_clock (suc m) ∙ ap shrink same ∙ sym (block_clock m),
         both_equal (R.guard_pairs schemes cases d cs (B m) (suc m) 0 all) (R.blocks_pairs schemes cases d cs (suc m) (named.Tested all' p' ∷ ns))
             (R.guard_pairs schemes cases D C (R.block schemes cases D C m) (suc m) 0 all) (R.blocks_pairs schemes cases D C (suc m) (named.Tested all' p' ∷ ns)) h.1

@@ -23,7 +23,7 @@ use Rattle.clock_rules.specs.Fresh.{facts_of}
 use Rattle.clock_rules.specs.Judged.{IsPrincipal}
 use Rattle.clock_rules.specs.Rules as R
 use Rattle.clock_rules.specs.Rules.{Clocks, at, is_clock_mark}
-use Rattle.clock_rules.specs.Terms.{pointwise, var, names_in, names_step}
+use Rattle.clock_rules.specs.Terms.{var, names_in, names_step}
 use Rattle.clock_rules.proofs.Sides.{all_left, all_right, all_both}
 use Rattle.clock_rules.proofs.Substitution.{With, bottoms, induct, apply_on, apply_arrow, apply_pointwise}
 use Rattle.clock_laws.specs.Scoped.{own, InScheme, IsWell, IsScoped}
@@ -166,26 +166,23 @@ module _ (schemes : List ClockScheme) (cases : ℕ → Option ℕ) (params : Lis
   Public m = R.is_clock_parameter schemes cases d p.clocks m ≡ true
 
   abbrev Good : ClockTerm × ℕ → Type 0
-  Good z = (z.0 ≡ own d p.clocks z.1) × Public z.1
+  Good z = (Some z.0 ≡ own d p.clocks z.1) × Public z.1
 
   -- what is sampled on the name of a parameter is the clock of the parameter
-  clock_at : (t : ClockTerm) (m : ℕ) → t ≡ own d p.clocks m → Public m → nth (note_clocks notes) m ≡ Some t
+  clock_at : (t : ClockTerm) (m : ℕ) → Some t ≡ own d p.clocks m → Public m → nth (note_clocks notes) m ≡ Some t
   clock_at t m e c =
       let l = nth_some marks m (nth marks m) refl (marked_some (nth marks m) c) in
-      let a = scoped.many in
       let b = scoped.marks in
-      let n = some_at notes m (omega (arith, l, a, b)) in
-      let f : nth (note_clocks notes) m ≡ Some n.0.ck = nth_map (λ (n : Note). n.ck) notes m ∙ ap (option_map (λ (n : Note). n.ck)) n.1 in
-      let g : own d p.clocks m ≡ at (note_clocks notes) m = if_true (nat_lt m (length params)) (at (note_clocks notes) m) _ (lt_true m (length params) (omega (arith, l, b))) in
-      f ∙ ap Some (sym (e ∙ g ∙ ap (λ o. unwrap_or o pointwise) f))
+      let g : own d p.clocks m ≡ nth (note_clocks notes) m = if_true (nat_lt m (length params)) (nth (note_clocks notes) m) _ (lt_true m (length params) (omega (arith, l, b))) in
+      sym (e ∙ g)
 
   turn : (t : ClockTerm) (m : ℕ) → Good (t, m) → InScheme mine (ren place t, m)
   turn t m h =
       let z : m + 0 ≡ m = omega arith in
       (nth_map (ren place) (note_clocks notes) m ∙ ap (option_map (ren place)) (clock_at t m h.0 h.1), ap (λ k. has_name k (clock_marks marks 0)) (sym z) ∙ marked marks m 0 h.1)
 
-  good_all : (zs : List (ClockTerm × ℕ)) → Each (λ (z : ClockTerm × ℕ). z.0 ≡ own d p.clocks z.1) zs → Each (OfName Public) zs → Each Good zs
-  good_all zs h k = Fo.each_zip (λ (z : ClockTerm × ℕ). z.0 ≡ own d p.clocks z.1) (OfName Public) Good (λ z a b. (a, b)) zs h k
+  good_all : (zs : List (ClockTerm × ℕ)) → Each (λ (z : ClockTerm × ℕ). Some z.0 ≡ own d p.clocks z.1) zs → Each (OfName Public) zs → Each Good zs
+  good_all zs h k = Fo.each_zip (λ (z : ClockTerm × ℕ). Some z.0 ≡ own d p.clocks z.1) (OfName Public) Good (λ z a b. (a, b)) zs h k
 
   clock_well : (t : ClockTerm) → IsWellFormed (own d p.clocks) t → Each Public (names_in t) → Each (InScheme mine) (samplings (ren place t))
   clock_well t w q = turned place Good (InScheme mine) turn t (good_all (samplings t) w (samplings_named Public t q))

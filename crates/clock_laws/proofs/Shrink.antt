@@ -1,5 +1,5 @@
 -- Clocks with a variable in place of each sampling on a name of another clock than the name's, the outermost first.
-use Rattle.std.specs.Prelude.{◌≡◌, ℕ, ◌+◌, ◌≤◌, ◌&&◌, Bool, true, false, List, [], ◌∷◌, ◌++◌, map, if◌then◌else◌, refl}
+use Rattle.std.specs.Prelude.{◌≡◌, ℕ, ◌+◌, ◌≤◌, ◌&&◌, Bool, true, false, List, [], ◌∷◌, ◌++◌, map, Option, Some, None, if◌then◌else◌, refl}
 use Rattle.std.proofs.Common.{ap, ap₂, sym, ◌∙◌, subst, arith}
 use Rattle.std.proofs.lemmas.Bool.{and_parts}
 use Rattle.ls_terms.specs.declared.clocks.ClockTerm.{ClockTerm, fold-ClockTerm, fold-roll-ClockTerm, map-ClockTerm, out-ClockTerm, roll-ClockTerm, out-roll-ClockTerm, roll-out-ClockTerm}
@@ -61,13 +61,22 @@ old p = p.0
 abbrev new : Pair → ClockTerm
 new p = p.1
 
-module _ (own : ℕ → ClockTerm) where
+-- the clock is that of the name
+abbrev is_own : Option ClockTerm → ClockTerm → Bool
+is_own None t = false
+is_own (Some u) t = same t u
+
+own_true : (o : Option ClockTerm) (t : ClockTerm) → is_own o t ≡ true → Some t ≡ o
+own_true None t e = absurd (cc)
+own_true (Some u) t e = ap Some (same_true t u e)
+
+module _ (own : ℕ → Option ClockTerm) where
   abbrev kept : Bool → ClockTerm → ClockTerm
   kept t ck = if t then ck else var 0
 
   abbrev shrink_step : ClockTerm-F Pair → Pair
   shrink_step (ClockTerm-F.Var v) = (var v, var v)
-  shrink_step (ClockTerm-F.On s m k) = (on s.0 m k, kept (same s.0 (own m)) (on s.1 m k))
+  shrink_step (ClockTerm-F.On s m k) = (on s.0 m k, kept (is_own (own m) s.0) (on s.1 m k))
   shrink_step ClockTerm-F.Pointwise = (pointwise, pointwise)
   shrink_step (ClockTerm-F.Arrow ss s) = (arrow (map old ss) s.0, arrow (map new ss) s.1)
 
@@ -96,11 +105,11 @@ module _ (own : ℕ → ClockTerm) where
   pub shrink_var : (v : ℕ) → shrink (var v) ≡ var v
   shrink_var v = ap new (fold-roll-ClockTerm Pair shrink_step (ClockTerm-F.Var v))
 
-  pub shrink_on : (t : ClockTerm) (m k : ℕ) → shrink (on t m k) ≡ kept (same t (own m)) (on (shrink t) m k)
-  shrink_on t m k = ap new (fold-roll-ClockTerm Pair shrink_step (ClockTerm-F.On t m k)) ∙ ap (λ z. kept (same z (own m)) (on (shrink t) m k)) (old_is t)
+  pub shrink_on : (t : ClockTerm) (m k : ℕ) → shrink (on t m k) ≡ kept (is_own (own m) t) (on (shrink t) m k)
+  shrink_on t m k = ap new (fold-roll-ClockTerm Pair shrink_step (ClockTerm-F.On t m k)) ∙ ap (λ z. kept (is_own (own m) z) (on (shrink t) m k)) (old_is t)
 
-  pub shrink_good : (t : ClockTerm) (m k : ℕ) → t ≡ own m → shrink (on t m k) ≡ on (shrink t) m k
-  shrink_good t m k e = shrink_on t m k ∙ ap (λ z. kept z (on (shrink t) m k)) (ap (same t) (sym e) ∙ same_self t)
+  pub shrink_good : (t : ClockTerm) (m k : ℕ) → Some t ≡ own m → shrink (on t m k) ≡ on (shrink t) m k
+  shrink_good t m k e = shrink_on t m k ∙ ap (λ z. kept z (on (shrink t) m k)) (ap (λ o. is_own o t) (sym e) ∙ same_self t)
 
   pub shrink_pointwise : shrink pointwise ≡ pointwise
   shrink_pointwise = ap new (fold-roll-ClockTerm Pair shrink_step ClockTerm-F.Pointwise)
@@ -133,7 +142,7 @@ module _ (own : ℕ → ClockTerm) where
 
     fewer_at : (y : ClockTerm-F (With Fewer)) → Each P (names_step (map-ClockTerm ClockTerm (List ℕ) names_in (bottoms Fewer y))) → Each P (names_in (shrink (roll-ClockTerm (bottoms Fewer y))))
     fewer_at (ClockTerm-F.Var v) h = subst (λ z. Each P (names_in z)) (sym (shrink_var v)) (subst (Each P) (sym (names_roll (ClockTerm-F.Var v))) tt)
-    fewer_at (ClockTerm-F.On p m k) h = subst (λ z. Each P (names_in z)) (sym (shrink_on p.0 m k)) (fewer_kept (same p.0 (own m)) (shrink p.0) m k h.0 (p.1 h.1))
+    fewer_at (ClockTerm-F.On p m k) h = subst (λ z. Each P (names_in z)) (sym (shrink_on p.0 m k)) (fewer_kept (is_own (own m) p.0) (shrink p.0) m k h.0 (p.1 h.1))
     fewer_at ClockTerm-F.Pointwise h = subst (λ z. Each P (names_in z)) (sym shrink_pointwise) (subst (Each P) (sym (names_roll ClockTerm-F.Pointwise)) tt)
     fewer_at (ClockTerm-F.Arrow ps p) h =
         let ts : List ClockTerm = map (λ (q : With Fewer). q.0) ps in
@@ -147,7 +156,7 @@ module _ (own : ℕ → ClockTerm) where
   -- ---- no larger, and smaller where something is put
 
   abbrev Good : ClockTerm × ℕ → Type 0
-  Good s = s.0 ≡ own s.1
+  Good s = Some s.0 ≡ own s.1
 
   abbrev Sized : ClockTerm → Type 0
   Sized t = (size (shrink t) ≤ size t) × (size t ≤ size (shrink t) → IsWellFormed own t)
@@ -176,10 +185,10 @@ module _ (own : ℕ → ClockTerm) where
   var_size : (v : ℕ) → size (var v) ≡ 1
   var_size v = size_roll (ClockTerm-F.Var v)
 
-  sized_kept : (b : Bool) (t : ClockTerm) (m k : ℕ) → same t (own m) ≡ b → Sized t → (size (kept b (on (shrink t) m k)) ≤ size (on t m k)) × (size (on t m k) ≤ size (kept b (on (shrink t) m k)) → IsWellFormed own (on t m k))
+  sized_kept : (b : Bool) (t : ClockTerm) (m k : ℕ) → is_own (own m) t ≡ b → Sized t → (size (kept b (on (shrink t) m k)) ≤ size (on t m k)) × (size (on t m k) ≤ size (kept b (on (shrink t) m k)) → IsWellFormed own (on t m k))
   sized_kept true t m k e h =
       let a = on_size (shrink t) m k in let b = on_size t m k in let q = h.0 in
-      (omega (arith, a, b, q), λ l. subst (Each Good) (sym (samplings_on t m k)) (same_true t (own m) e, h.1 (omega (arith, a, b, l))))
+      (omega (arith, a, b, q), λ l. subst (Each Good) (sym (samplings_on t m k)) (own_true (own m) t e, h.1 (omega (arith, a, b, l))))
   sized_kept false t m k e h =
       let a = var_size 0 in let b = on_size t m k in let s = some_size t in
       (omega (arith, a, b), λ l. absurd (omega (arith, a, b, s, l)))
@@ -190,7 +199,7 @@ module _ (own : ℕ → ClockTerm) where
   sized_at : (y : ClockTerm-F (With Sized)) → Sized (roll-ClockTerm (bottoms Sized y))
   sized_at (ClockTerm-F.Var v) = let e = ap size (shrink_var v) in (omega (arith, e), λ l. subst (Each Good) (sym (samplings_var v)) tt)
   sized_at (ClockTerm-F.On p m k) =
-      let q = sized_kept (same p.0 (own m)) p.0 m k refl p.1 in
+      let q = sized_kept (is_own (own m) p.0) p.0 m k refl p.1 in
       let e = ap size (shrink_on p.0 m k) in
       let l = q.0 in
       (omega (arith, e, l), λ h. q.1 (omega (arith, e, h)))
@@ -226,7 +235,7 @@ module _ (own : ℕ → ClockTerm) where
 
   stands_layer : (x : ClockTerm-F ClockTerm) → stands_at x ≡ true → stands (shrink (roll-ClockTerm x)) ≡ true
   stands_layer (ClockTerm-F.Var v) h = ap stands_at (out_of (shrink (var v)) (ClockTerm-F.Var v) (shrink_var v))
-  stands_layer (ClockTerm-F.On t m k) h = ap stands (shrink_on t m k) ∙ stands_kept (same t (own m)) (shrink t) m k
+  stands_layer (ClockTerm-F.On t m k) h = ap stands (shrink_on t m k) ∙ stands_kept (is_own (own m) t) (shrink t) m k
   stands_layer ClockTerm-F.Pointwise h = absurd (cc)
   stands_layer (ClockTerm-F.Arrow ts t) h = absurd (cc)
 

@@ -17,7 +17,7 @@ use Rattle.clock_laws.specs.Scoped.{own, IsWell, IsScoped}
 use Rattle.clock_laws.specs.WellFormed.{IsWellFormed}
 
 -- all clocks of an annotated definition are well-formed
-pub record AreWellFormed (own : ℕ → ClockTerm) (ns : List Note) (b : BodyOf Note) (cs : Clocks) : Type 0 where
+pub record AreWellFormed (own : ℕ → Option ClockTerm) (ns : List Note) (b : BodyOf Note) (cs : Clocks) : Type 0 where
   pub notes : Each (λ (n : Note). IsWellFormed own n.ck) ns
   pub body : Each (λ (n : Note). IsWellFormed own n.ck) (notes_body Note b)
   pub vars : Each (IsWellFormed own) cs.vars

@@ -21,17 +21,17 @@ use Rattle.clock_laws.specs.WellFormed.{samplings}
 
 -- ---- the clock of a clock name
 
-abbrev pub named_clock : Clocks → ℕ → Option Named → ClockTerm
-named_clock cs j None = at cs.blocks j
-named_clock cs j (Some (named.Clock x)) = at cs.vars x
-named_clock cs j (Some (named.Match k all p)) = at cs.blocks j
-named_clock cs j (Some (named.Present xs p)) = at cs.blocks j
-named_clock cs j (Some (named.Active all p)) = at cs.blocks j
-named_clock cs j (Some (named.Tested all p)) = at cs.blocks j
+abbrev pub named_clock : Clocks → ℕ → Option Named → Option ClockTerm
+named_clock cs j None = None
+named_clock cs j (Some (named.Clock x)) = Some (at cs.vars x)
+named_clock cs j (Some (named.Match k all p)) = Some (at cs.blocks j)
+named_clock cs j (Some (named.Present xs p)) = Some (at cs.blocks j)
+named_clock cs j (Some (named.Active all p)) = Some (at cs.blocks j)
+named_clock cs j (Some (named.Tested all p)) = Some (at cs.blocks j)
 
--- that of a Clock parameter, of a variable, or of a block
-abbrev pub own : Facts Note → Clocks → ℕ → ClockTerm
-own d cs m = if nat_lt m (length d.params) then at (note_clocks d.notes) m else named_clock cs (m - length d.params) (nth d.names (m - length d.params))
+-- that of a Clock parameter, of a variable, or of a block; none where the number names nothing of the definition
+abbrev pub own : Facts Note → Clocks → ℕ → Option ClockTerm
+own d cs m = if nat_lt m (length d.params) then nth (note_clocks d.notes) m else named_clock cs (m - length d.params) (nth d.names (m - length d.params))
 
 -- ---- schemes
 
@@ -46,7 +46,7 @@ pub record IsWell (s : ClockScheme) : Type 0 where
 -- ---- definitions
 
 abbrev pub no_clock : Option Named → Bool
-no_clock None = true
+no_clock None = false
 no_clock (Some (named.Clock x)) = false
 no_clock (Some (named.Match k all p)) = true
 no_clock (Some (named.Present xs p)) = true

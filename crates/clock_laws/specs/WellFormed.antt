@@ -1,5 +1,5 @@
 -- Clocks in which each sampling on a name is one of the clock of that name.
-use Rattle.std.specs.Prelude.{◌≡◌, ℕ, List, [], ◌∷◌, ◌++◌, map}
+use Rattle.std.specs.Prelude.{◌≡◌, ℕ, List, [], ◌∷◌, ◌++◌, map, Option, Some}
 use Rattle.ls_terms.specs.declared.clocks.ClockTerm.{ClockTerm, fold-ClockTerm}
 use Rattle.ls_terms.specs.declared.clocks.ClockTerm.TheOpen.{ClockTerm-F}
 use Rattle.tree_notes.specs.Each.{Each}
@@ -28,6 +28,6 @@ with_samplings = fold-ClockTerm Seen samplings_step
 abbrev pub samplings : ClockTerm → List (ClockTerm × ℕ)
 samplings ck = (with_samplings ck).1
 
--- each sampling in a clock is one of the clock of its name
-abbrev pub IsWellFormed : (ℕ → ClockTerm) → ClockTerm → Type 0
-IsWellFormed own ck = Each (λ s. s.0 ≡ own s.1) (samplings ck)
+-- each sampling in a clock is one of the clock of its name; a number that names nothing has none
+abbrev pub IsWellFormed : (ℕ → Option ClockTerm) → ClockTerm → Type 0
+IsWellFormed own ck = Each (λ s. Some s.0 ≡ own s.1) (samplings ck)

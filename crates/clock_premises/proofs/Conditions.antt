@@ -1,13 +1,12 @@
 -- Conditions, and what is given at Clock positions, are clock names where no claim of scope is at fault.
-use Rattle.std.specs.Prelude.{◌≡◌, refl, ℕ, zero, suc, ◌+◌, ◌&&◌, ◌||◌, not, Bool, true, false, List, [], ◌∷◌, ◌++◌, map, length, slice_get, Option, Some, None, is_some, if◌then◌else◌}
+use Rattle.std.specs.Prelude.{◌≡◌, refl, ℕ, suc, ◌+◌, ◌&&◌, ◌||◌, not, Bool, true, false, List, [], ◌∷◌, ◌++◌, map, length, slice_get, Option, Some, None, if◌then◌else◌}
 use Rattle.std.specs.List.{list_any}
-use Rattle.std.proofs.Common.{ap, ap₂, sym, ◌∙◌, subst, arith, append_assoc}
+use Rattle.std.proofs.Common.{ap, sym, ◌∙◌, subst, arith, append_assoc}
 use Rattle.ls_base.specs.declared.Name.{Name}
 use Rattle.ls_ast.specs.declared.tree.Case.{Case}
-use Rattle.ls_ast.specs.declared.tree.Case.TheVariants as case
 use Rattle.ls_ast.specs.declared.tree.Mark.{Mark}
 use Rattle.ls_ast.specs.declared.tree.Mark.TheVariants as mark
-use Rattle.ls_ast.specs.declared.tree.Expr.{Expr, Expr-F, fold-Expr, fold-roll-Expr, ind-Expr, roll-Expr}
+use Rattle.ls_ast.specs.declared.tree.Expr.{Expr, Expr-F, fold-roll-Expr, ind-Expr, roll-Expr}
 use Rattle.ls_ast.specs.declared.tree.Form.{Form, fold-Form, fold-roll-Form, map-Form, roll-Form}
 use Rattle.ls_ast.specs.declared.tree.Form.TheOpen.{Form-F}
 use Rattle.ls_sig.specs.declared.binder.Binder.{Binder}
@@ -29,7 +28,7 @@ use Rattle.scope_rules.specs.declared.claims.Stand.TheVariants.{At as at, Loose 
 use Rattle.clock_rules.specs.declared.scheme.ClockScheme.{ClockScheme}
 use Rattle.clock_rules.specs.Facts.{Facts}
 use Rattle.clock_rules.specs.Files.{clock_marks}
-use Rattle.clock_rules.specs.Layers.{Layer, Laid, Inside, laid, form_layers, expr_layers, laid_layers, note_of, remap}
+use Rattle.clock_rules.specs.Layers.{Layer, Laid, Inside, laid, form_layers, expr_layers, laid_layers, note_of}
 use Rattle.clock_rules.specs.Rules.{is_clock_mark}
 use Rattle.clock_laws.specs.Scoped.{IsName, IsNameAt, GivesNames, CallScoped, FormScoped}
 use Rattle.clock_premises.specs.Premises.{use_of, Given, CallGiven, FormGiven}

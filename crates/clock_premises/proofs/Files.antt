@@ -1,6 +1,6 @@
 -- The definitions of an annotated file, one after the other.
-use Rattle.std.specs.Prelude.{◌≡◌, refl, ℕ, suc, ◌+◌, Bool, true, false, List, [], ◌∷◌, ◌++◌, map, length, Option, Some, None}
-use Rattle.std.proofs.Common.{ap, ap₂, sym, ◌∙◌, subst, arith}
+use Rattle.std.specs.Prelude.{◌≡◌, refl, ℕ, suc, Bool, true, false, List, [], ◌∷◌, ◌++◌, map, length, Option, Some, None}
+use Rattle.std.proofs.Common.{ap, sym, ◌∙◌, subst, arith}
 use Rattle.ls_base.specs.declared.Line.{Line}
 use Rattle.ls_base.specs.declared.Name.{Name}
 use Rattle.ls_ast.specs.declared.tree.BodyOf.{BodyOf}
@@ -23,7 +23,7 @@ use Rattle.tree_notes.proofs.Twice.{body_twice}
 use Rattle.type_rules.specs.Annotations as An
 use Rattle.type_rules.specs.Definitions.{Definition, variables}
 use Rattle.type_rules.specs.Files.{LetOf, Judged, Typed, annotation, lets, in_place, names_count, note_types, signature}
-use Rattle.type_rules.specs.Numbers.{Placed, place_step, place_next, placer}
+use Rattle.type_rules.specs.Numbers.{place_step, place_next, placer}
 use Rattle.type_rules.specs.Principal.{typed_by}
 use Rattle.type_rules.proofs.Annotations.{erased_back}
 use Rattle.scope_rules.specs.After as After
@@ -37,7 +37,7 @@ use Rattle.clock_rules.specs.declared.scheme.ClockScheme.{ClockScheme}
 use Rattle.clock_rules.specs.Files.{clock_marks, scheme}
 use Rattle.clock_rules.specs.Fresh.{erase, facts_of}
 use Rattle.clock_laws.specs.Scoped.{IsScoped}
-use Rattle.clock_premises.specs.Premises.{use_of, SchemesOf, SchemesOfSigs, EachScoped}
+use Rattle.clock_premises.specs.Premises.{use_of, SchemesOf, SchemesOfSigs, AllGiven, EachScoped}
 use Rattle.clock_premises.proofs.Scope.{scoped}
 use Rattle.clock_premises.proofs.GivenBodies.{given_by_types}
 
@@ -115,6 +115,23 @@ long_types : (ns : List TypeNote) → length (note_types ns) ≡ length ns
 long_types [] = refl
 long_types (n ∷ ns) = ap suc (long_types ns)
 
+-- a definition that was judged for scope, in which something is given at each Clock position
+pub record FromScope (cases : ℕ → Option ℕ) (schemes : List ClockScheme) (params : List Pat) (marks : List Mark) (notes : List Note) (body : BodyOf Note) : Type 0 where
+  pub judged : F.Judged Plain
+  pub params_are : params ≡ judged.params
+  pub marks_are : marks ≡ F.marks judged
+  pub is : in_body Note Use use_of body ≡ resolved_body judged
+  pub sound : F.fault judged ≡ None
+  pub heads : SchemesOf judged.known.defs schemes
+  pub many : length notes ≡ length judged.params
+  pub given : AllGiven schemes (facts_of schemes cases judged.params (F.marks judged) notes body)
+
+abbrev pub EachFromScope : (ℕ → Option ℕ) → List ClockScheme → List (DefOf Note) → Type 0
+EachFromScope cases schemes [] = Unit {0}
+EachFromScope cases schemes (item.Cases line name all ∷ rest) = EachFromScope cases schemes rest
+EachFromScope cases schemes (item.Let line node name params marks notes body ∷ rest) =
+    FromScope cases schemes params marks notes body × EachFromScope cases (schemes ++ scheme marks notes body.result.note.ck ∷ []) rest
+
 module _ (case_type : ℕ → Option TypeTerm) (limit : ℕ) (cases : ℕ → Option ℕ) (words : List (List ℕ)) where
   abbrev judge : Known → Bool → Name → List Pat → BodyOf Plain → F.Judged Plain
   judge k node f params body = record { names = words; known = k; title = f.0; node = node; params = params; body = body }
@@ -142,10 +159,17 @@ module _ (case_type : ℕ → Option TypeTerm) (limit : ℕ) (cases : ℕ → Op
           ∙ ap (λ (z : Definition TypeNote). in_body TypeNote Use An.erase z.body) same
           ∙ ap (λ (z : Definition Use). z.body) (erased_back f (resolved d) (names_count case_type sigs (resolved d)))
 
-      one_scoped : (schemes : List ClockScheme) → F.fault d ≡ None → SchemesOf d.known.defs schemes → SchemesOfSigs sigs schemes → Typed case_type limit sigs (resolved d) f → IsScoped schemes (facts_of schemes cases params marks notes body)
-      one_scoped schemes sound heads scheme_sigs t =
-          let given = given_by_types schemes sigs case_type (variables sigs case_type (resolved d)) f typed cases notes body scheme_sigs (ap (λ (z : Definition TypeNote). z.body) same) t.1.obeys in
-          subst (λ (z : Type 0). z) (λ i. IsScoped schemes (facts_of schemes cases (sym same i).params (sym same i).marks notes body)) (scoped d schemes cases notes body is_body sound heads many given)
+      one_resolved : (schemes : List ClockScheme) → F.fault d ≡ None → SchemesOf d.known.defs schemes → SchemesOfSigs sigs schemes → Typed case_type limit sigs (resolved d) f → FromScope cases schemes params marks notes body
+      one_resolved schemes sound heads scheme_sigs t = record {
+        judged = d;
+        params_are = ap (λ (z : Definition TypeNote). z.params) same;
+        marks_are = ap (λ (z : Definition TypeNote). z.marks) same;
+        is = is_body;
+        sound = sound;
+        heads = heads;
+        many = many;
+        given = given_by_types schemes sigs case_type (variables sigs case_type (resolved d)) f typed cases notes body scheme_sigs (ap (λ (z : Definition TypeNote). z.body) same) t.1.obeys;
+      }
 
   -- the signature of a definition
   abbrev Annotated : List Sig → F.Judged Plain → Line → Name → LetOf TypeNote → Type 0
@@ -159,24 +183,24 @@ module _ (case_type : ℕ → Option TypeTerm) (limit : ℕ) (cases : ℕ → Op
       let params : length s.params ≡ length d.params = ap (λ (z : Sig). length z.params) path ∙ length_of _ (note_types t.notes) ∙ long_types t.notes ∙ long_notes d sigs h.0 in
       (marks, ap length marks ∙ long_marks (F.asks d) d.params 0 ∙ sym params)
 
-  each_scoped : (k : Known) (sigs : List Sig) (schemes : List ClockScheme) (ds : List (DefOf Plain)) → first_fault words k ds ≡ None → SchemesOf k.defs schemes → SchemesOfSigs sigs schemes
+  each_resolved : (k : Known) (sigs : List Sig) (schemes : List ClockScheme) (ds : List (DefOf Plain)) → first_fault words k ds ≡ None → SchemesOf k.defs schemes → SchemesOfSigs sigs schemes
       → (as' : List (LetOf TypeNote)) (ss : List Sig) (tree : List (DefOf Note)) → Judged case_type limit sigs (lets (resolved_defs words k ds)) as' ss
-      → map (in_definition Note TypeNote erase) tree ≡ in_place (resolved_defs words k ds) as' → EachScoped cases schemes tree
-  each_scoped k sigs schemes [] sound heads scheme_sigs as' ss [] j e = tt
-  each_scoped k sigs schemes [] sound heads scheme_sigs as' ss (x ∷ tree) j e = absurd (no_item (in_definition Note TypeNote erase x) (map (in_definition Note TypeNote erase) tree) e)
-  each_scoped k sigs schemes (DefOf.Cases line t cs ∷ ds) sound heads scheme_sigs as' ss [] j e =
+      → map (in_definition Note TypeNote erase) tree ≡ in_place (resolved_defs words k ds) as' → EachFromScope cases schemes tree
+  each_resolved k sigs schemes [] sound heads scheme_sigs as' ss [] j e = tt
+  each_resolved k sigs schemes [] sound heads scheme_sigs as' ss (x ∷ tree) j e = absurd (no_item (in_definition Note TypeNote erase x) (map (in_definition Note TypeNote erase) tree) e)
+  each_resolved k sigs schemes (DefOf.Cases line t cs ∷ ds) sound heads scheme_sigs as' ss [] j e =
       absurd (no_item (item.Cases line t cs) (in_place (resolved_defs words (known_after {N = Plain} words k (DefOf.Cases line t cs)) ds) as') (sym e))
-  each_scoped k sigs schemes (DefOf.Cases line t cs ∷ ds) sound heads scheme_sigs as' ss (item.Cases l n all ∷ tree) j e =
-      each_scoped (known_after {N = Plain} words k (DefOf.Cases line t cs)) sigs schemes ds (none_else _ _ sound).1 heads scheme_sigs as' ss tree j (ap rest_of e)
-  each_scoped k sigs schemes (DefOf.Cases line t cs ∷ ds) sound heads scheme_sigs as' ss (item.Let l o n ps ms ns b ∷ tree) j e =
+  each_resolved k sigs schemes (DefOf.Cases line t cs ∷ ds) sound heads scheme_sigs as' ss (item.Cases l n all ∷ tree) j e =
+      each_resolved (known_after {N = Plain} words k (DefOf.Cases line t cs)) sigs schemes ds (none_else _ _ sound).1 heads scheme_sigs as' ss tree j (ap rest_of e)
+  each_resolved k sigs schemes (DefOf.Cases line t cs ∷ ds) sound heads scheme_sigs as' ss (item.Let l o n ps ms ns b ∷ tree) j e =
       let c : true ≡ false = ap (λ z. is_let (first_or (item.Cases line t cs) z)) e in absurd (cc)
-  each_scoped k sigs schemes (DefOf.Let line node name params ms ns body ∷ ds) sound heads scheme_sigs [] ss tree j e = absurd j
-  each_scoped k sigs schemes (DefOf.Let line node name params ms ns body ∷ ds) sound heads scheme_sigs (a ∷ as') [] tree j e = absurd j
-  each_scoped k sigs schemes (DefOf.Let line node name params ms ns body ∷ ds) sound heads scheme_sigs (a ∷ as') (s ∷ ss) [] j e =
+  each_resolved k sigs schemes (DefOf.Let line node name params ms ns body ∷ ds) sound heads scheme_sigs [] ss tree j e = absurd j
+  each_resolved k sigs schemes (DefOf.Let line node name params ms ns body ∷ ds) sound heads scheme_sigs (a ∷ as') [] tree j e = absurd j
+  each_resolved k sigs schemes (DefOf.Let line node name params ms ns body ∷ ds) sound heads scheme_sigs (a ∷ as') (s ∷ ss) [] j e =
       absurd (no_item (item.Let a.line a.node a.name a.def.params a.def.marks a.def.notes a.def.body) (in_place (resolved_defs words (known_after {N = Plain} words k (DefOf.Let line node name params ms ns body)) ds) as') (sym e))
-  each_scoped k sigs schemes (DefOf.Let line node name params ms ns body ∷ ds) sound heads scheme_sigs (a ∷ as') (s ∷ ss) (item.Cases l n all ∷ tree) j e =
+  each_resolved k sigs schemes (DefOf.Let line node name params ms ns body ∷ ds) sound heads scheme_sigs (a ∷ as') (s ∷ ss) (item.Cases l n all ∷ tree) j e =
       let c : false ≡ true = ap (λ z. is_let (first_or (item.Cases l n all) z)) e in absurd (cc)
-  each_scoped k sigs schemes (DefOf.Let line node name params ms ns body ∷ ds) sound heads scheme_sigs (a ∷ as') (s ∷ ss) (item.Let l o n ps qs us b ∷ tree) j e =
+  each_resolved k sigs schemes (DefOf.Let line node name params ms ns body ∷ ds) sound heads scheme_sigs (a ∷ as') (s ∷ ss) (item.Let l o n ps qs us b ∷ tree) j e =
       let d : F.Judged Plain = judge k node name params body in
       let first : tree_def ps qs us b ≡ a.def = ap (λ z. def_or a.def (first_or (item.Cases line n []) z)) e in
       let same : tree_def ps qs us b ≡ typed d sigs j.0.0 = first ∙ ap (λ (z : LetOf TypeNote). z.def) j.0.2 in
@@ -184,16 +208,34 @@ module _ (case_type : ℕ → Option TypeTerm) (limit : ℕ) (cases : ℕ → Op
       let faults = none_else (with_line line.0 (F.fault d)) (first_fault words (known_after {N = Plain} words k (DefOf.Let line node name params ms ns body)) ds) sound in
       let sig = long_signature d sigs line name a s j.0 j.1 in
       let own = scheme qs us b.result.note.ck in (
-        one_scoped d sigs j.0.0 ps qs us b same schemes (no_line line.0 (F.fault d) faults.0) heads scheme_sigs j.0.1,
-        each_scoped (known_after {N = Plain} words k (DefOf.Let line node name params ms ns body)) (sigs ++ s ∷ []) (schemes ++ own ∷ []) ds faults.1
+        one_resolved d sigs j.0.0 ps qs us b same schemes (no_line line.0 (F.fault d) faults.0) heads scheme_sigs j.0.1,
+        each_resolved (known_after {N = Plain} words k (DefOf.Let line node name params ms ns body)) (sigs ++ s ∷ []) (schemes ++ own ∷ []) ds faults.1
             (more_schemes k.defs schemes (F.seen_later d) own (ap (λ z. clock_marks z 0) marks) heads)
             (more_sigs sigs schemes s own (ap (λ z. clock_marks z 0) (marks ∙ sym sig.0)) sig.1 scheme_sigs)
             as' ss tree j.2 (ap rest_of e),
       )
 
+-- each definition of a file is one that was judged for scope
+pub files_resolved : (case_type : ℕ → Option TypeTerm) (limit : ℕ) (cases : ℕ → Option ℕ) (env : Env) (file : FileOf Plain) (as' : List (LetOf TypeNote)) (ss : List Sig) (schemes : List ClockScheme) (tree : List (DefOf Note))
+    → After.scope_fault env file ≡ None → SchemesOfSigs env.sigs schemes → Judged case_type limit env.sigs (lets (After.resolved env file).defs) as' ss
+    → map (in_definition Note TypeNote erase) tree ≡ in_place (After.resolved env file).defs as' → EachFromScope cases schemes tree
+files_resolved case_type limit cases env file as' ss schemes tree sound same j e =
+    let names = After.names_after env file.names in
+    each_resolved case_type limit cases names (After.known_by env file.names) env.sigs schemes file.defs sound (env_schemes (After.renumbered names env.names) env.sigs schemes same) same as' ss tree j e
+
+pub resolved_scoped : (cases : ℕ → Option ℕ) (schemes : List ClockScheme) (params : List Pat) (marks : List Mark) (notes : List Note) (body : BodyOf Note) → FromScope cases schemes params marks notes body
+    → IsScoped schemes (facts_of schemes cases params marks notes body)
+resolved_scoped cases schemes params marks notes body r = subst (λ (z : Type 0). z) (λ i. IsScoped schemes (facts_of schemes cases (sym r.params_are i) (sym r.marks_are i) notes body))
+    (scoped r.judged schemes cases notes body r.is r.sound r.heads r.many r.given)
+
+all_scoped : (cases : ℕ → Option ℕ) (schemes : List ClockScheme) (tree : List (DefOf Note)) → EachFromScope cases schemes tree → EachScoped cases schemes tree
+all_scoped cases schemes [] h = tt
+all_scoped cases schemes (item.Cases line name all ∷ tree) h = all_scoped cases schemes tree h
+all_scoped cases schemes (item.Let line node name params marks notes body ∷ tree) h =
+    (resolved_scoped cases schemes params marks notes body h.0, all_scoped cases (schemes ++ scheme marks notes body.result.note.ck ∷ []) tree h.1)
+
 pub files_scoped : (case_type : ℕ → Option TypeTerm) (limit : ℕ) (cases : ℕ → Option ℕ) (env : Env) (file : FileOf Plain) (as' : List (LetOf TypeNote)) (ss : List Sig) (schemes : List ClockScheme) (tree : List (DefOf Note))
     → After.scope_fault env file ≡ None → SchemesOfSigs env.sigs schemes → Judged case_type limit env.sigs (lets (After.resolved env file).defs) as' ss
     → map (in_definition Note TypeNote erase) tree ≡ in_place (After.resolved env file).defs as' → EachScoped cases schemes tree
 files_scoped case_type limit cases env file as' ss schemes tree sound same j e =
-    let names = After.names_after env file.names in
-    each_scoped case_type limit cases names (After.known_by env file.names) env.sigs schemes file.defs sound (env_schemes (After.renumbered names env.names) env.sigs schemes same) same as' ss tree j e
+    all_scoped cases schemes tree (files_resolved case_type limit cases env file as' ss schemes tree sound same j e)

@@ -1,8 +1,7 @@
 -- Where an expression is well typed something is given at each Clock position of what it names.
-use Rattle.std.specs.Prelude.{◌≡◌, refl, ℕ, zero, suc, ◌+◌, ◌==◌, ◌≤◌, ◌&&◌, ◌||◌, not, nat_lt, Bool, true, false, List, [], ◌∷◌, ◌++◌, map, length, drop, slice_get, Option, Some, None, if◌then◌else◌, ◌⊎◌}
-use Rattle.std.proofs.Common.{ap, ap₂, sym, ◌∙◌, subst, inl, inr, arith}
+use Rattle.std.specs.Prelude.{◌≡◌, refl, ℕ, zero, suc, ◌+◌, ◌==◌, ◌≤◌, ◌&&◌, not, nat_lt, Bool, true, false, List, [], ◌∷◌, ◌++◌, map, length, drop, slice_get, Option, Some, None, if◌then◌else◌, ◌⊎◌}
+use Rattle.std.proofs.Common.{ap, sym, ◌∙◌, subst, inl, inr, arith}
 use Rattle.std.proofs.lemmas.Bool.{and_parts, eqb-true}
-use Rattle.ls_base.specs.declared.Name.{Name}
 use Rattle.ls_ast.specs.declared.tree.Case.{Case}
 use Rattle.ls_ast.specs.declared.tree.Mark.{Mark}
 use Rattle.ls_ast.specs.declared.tree.Mark.TheVariants as mark
@@ -23,7 +22,7 @@ use Rattle.ls_places.specs.Search.{nth}
 use Rattle.tree_notes.specs.Each.{Each}
 use Rattle.tree_notes.proofs.Refold as Re
 use Rattle.type_rules.specs.declared.demand.Demand.{Demand}
-use Rattle.type_rules.specs.declared.demand.Demand.TheVariants.{Fits, Equal, Function, Never}
+use Rattle.type_rules.specs.declared.demand.Demand.TheVariants.{Fits, Function, Never}
 use Rattle.type_rules.specs.Demands.{Holds}
 use Rattle.type_rules.specs.Expressions as ex
 use Rattle.type_rules.specs.Expressions.{any, Reading, reading, streams, zip_fits, given, applied, restarts, is_bare, is_stream, all_streams, is_passed, rest_of, called, partial, call_of, application, name_reading, kind_of, same_kind, none_of, types_of, operand_types, result_type, vars_from}
@@ -33,7 +32,7 @@ use Rattle.clock_rules.specs.Fresh.{erase}
 use Rattle.clock_rules.specs.Layers.{Layer, Laid, Inside, laid, form_layers, expr_layers, laid_layers, note_of}
 use Rattle.clock_rules.specs.Rules.{is_clock_mark}
 use Rattle.clock_premises.specs.Premises.{Given, CallGiven, FormGiven}
-use Rattle.clock_premises.proofs.Lists.{differ, each_both, each_left, each_right, end_nil}
+use Rattle.clock_premises.proofs.Lists.{each_both, each_left, each_right}
 
 -- an earlier definition, as types and as clocks see it
 abbrev pub SameScheme : Option Sig → Option ClockScheme → Type 0

@@ -1,6 +1,6 @@
 -- Where a body is well typed something is given at each Clock position in it.
-use Rattle.std.specs.Prelude.{◌≡◌, refl, ℕ, zero, suc, ◌+◌, Bool, true, false, List, [], ◌∷◌, ◌++◌, map, length, slice_get, Option, Some, None, option_map, if◌then◌else◌}
-use Rattle.std.proofs.Common.{ap, sym, ◌∙◌, subst}
+use Rattle.std.specs.Prelude.{◌≡◌, ℕ, zero, suc, ◌+◌, Bool, true, false, List, [], ◌∷◌, ◌++◌, map, length, slice_get, Option, Some, None, option_map, if◌then◌else◌}
+use Rattle.std.proofs.Common.{sym, subst}
 use Rattle.ls_ast.specs.declared.tree.Mark.{Mark}
 use Rattle.ls_ast.specs.declared.tree.Pat.{Pat}
 use Rattle.ls_ast.specs.declared.tree.BodyOf.{BodyOf}
@@ -16,7 +16,6 @@ use Rattle.ls_sig.specs.declared.sigs.Sig.{Sig}
 use Rattle.ls_places.specs.Places as F
 use Rattle.ls_places.specs.Search.{nth}
 use Rattle.ls_places.specs.declared.around.Where as around_of
-use Rattle.ls_places.specs.declared.places.Right.{Right}
 use Rattle.ls_places.specs.declared.places.Variable.{Variable}
 use Rattle.ls_places.specs.declared.places.Whole.{Whole}
 use Rattle.tree_notes.specs.Each.{Each}
@@ -32,13 +31,13 @@ use Rattle.type_rules.specs.Bodies as B
 use Rattle.type_rules.specs.Bodies.{shape_of, parts_have, Asks, ArmAsks, CaseAsks}
 use Rattle.type_rules.proofs.Noted.{noted_is}
 use Rattle.clock_rules.specs.declared.scheme.ClockScheme.{ClockScheme}
-use Rattle.clock_rules.specs.Facts.{Facts, nodes_of, placed}
+use Rattle.clock_rules.specs.Facts.{nodes_of, placed}
 use Rattle.clock_rules.specs.Fresh.{erase, facts_of}
-use Rattle.clock_rules.specs.Layers.{Layer, laid, layers}
+use Rattle.clock_rules.specs.Layers.{Layer, layers}
 use Rattle.clock_rules.specs.Terms.{is_function}
 use Rattle.clock_premises.specs.Premises.{FormGiven, AllGiven, SchemesOfSigs}
 use Rattle.clock_premises.proofs.Lists.{each_both, each_left, each_right}
-use Rattle.clock_premises.proofs.Given.{SameScheme, Four, Good, expr_gives}
+use Rattle.clock_premises.proofs.Given.{SameScheme, Four, expr_gives}
 
 scheme_at : (gs : List Sig) (ss : List ClockScheme) → SchemesOfSigs gs ss → (j : ℕ) → SameScheme (slice_get gs j) (nth ss j)
 scheme_at [] [] h zero = tt

@@ -1,8 +1,8 @@
-mod Conditions
-mod Files
+pub mod Conditions
+pub mod Files
 mod Given
 mod GivenBodies
-mod Lists
-mod Scope
+pub mod Lists
+pub mod Scope
 mod Sites
 mod Walk

@@ -1,7 +1,7 @@
 -- What the laws of clocks suppose of a definition, from its scope.
-use Rattle.std.specs.Prelude.{◌≡◌, refl, ℕ, zero, suc, ◌+◌, ◌<◌, ◌==◌, ◌&&◌, ◌||◌, not, Bool, true, false, List, [], ◌∷◌, ◌++◌, map, length, slice_get, Option, Some, None, if◌then◌else◌, ◌⊎◌}
+use Rattle.std.specs.Prelude.{◌≡◌, refl, ℕ, zero, suc, ◌+◌, ◌<◌, ◌&&◌, ◌||◌, not, Bool, true, false, List, [], ◌∷◌, ◌++◌, map, length, slice_get, Option, Some, None, if◌then◌else◌, ◌⊎◌}
 use Rattle.std.specs.List.{list_any}
-use Rattle.std.proofs.Common.{ap, ap₂, sym, ◌∙◌, subst, inl, inr, arith, length-append}
+use Rattle.std.proofs.Common.{ap, sym, ◌∙◌, subst, inl, inr, arith, length-append}
 use Rattle.std.proofs.lemmas.Bool.{and_parts}
 use Rattle.ls_ast.specs.declared.tree.BodyOf.{BodyOf}
 use Rattle.ls_ast.specs.declared.tree.Expr.{Expr}
@@ -21,41 +21,37 @@ use Rattle.ls_places.specs.declared.places.Named.{Named}
 use Rattle.ls_places.specs.declared.places.Whole.{Whole}
 use Rattle.tree_notes.specs.Each.{Each}
 use Rattle.tree_notes.specs.Noted.{in_body}
-use Rattle.tree_notes.specs.Order as Or
 use Rattle.scope_rules.specs.Places as P
 use Rattle.scope_rules.specs.Places.{Place, same_place, reads, tests, option_list}
-use Rattle.scope_rules.specs.Claims.{claims, uses}
+use Rattle.scope_rules.specs.Claims.{claims}
 use Rattle.scope_rules.specs.declared.claims.Asked.{Asked}
 use Rattle.scope_rules.specs.declared.claims.Claim.{Claim}
-use Rattle.scope_rules.specs.declared.claims.Claim.TheVariants.{Named as named, Stray as stray}
+use Rattle.scope_rules.specs.declared.claims.Claim.TheVariants.{Named as named}
 use Rattle.scope_rules.specs.declared.claims.Earlier.{Earlier}
-use Rattle.scope_rules.specs.declared.claims.Stand.{Stand}
 use Rattle.scope_rules.specs.declared.claims.Stand.TheVariants.{At as at, Asked as questioned}
-use Rattle.scope_rules.specs.declared.places.Site.{Site}
 use Rattle.scope_rules.specs.Faults as F
 use Rattle.scope_rules.specs.Faults.{Judged, Sight, Fault, Twice, Unbound, NotAllArms, Mixed, NotCombinatorial, asked_by, any_claim, binder_at, var_binder, param_binder, def_binder, is_nothing, clock_way}
-use Rattle.scope_rules.specs.Laws.{InSight, Holding, placed_exprs, whole_key, site_key, variable_key}
+use Rattle.scope_rules.specs.Laws.{InSight, Holding, placed_exprs, whole_key}
 use Rattle.scope_rules.specs.Resolved as R
 use Rattle.scope_rules.proofs.AsFound.{exprs_alike, variables_alike}
 use Rattle.scope_rules.proofs.InSight.{binder_in_sight}
 use Rattle.clock_rules.specs.declared.scheme.ClockScheme.{ClockScheme}
 use Rattle.clock_rules.specs.Facts.{Facts, nodes_of, placed}
 use Rattle.clock_rules.specs.Fresh.{facts_of}
-use Rattle.clock_rules.specs.Layers.{Layer, layers, laid}
+use Rattle.clock_rules.specs.Layers.{Layer, layers}
 use Rattle.clock_rules.specs.Rules.{clock_name, is_clock_of, param_at, param_here, after_names}
 use Rattle.clock_rules.specs.Terms.{is_function}
 use Rattle.clock_laws.specs.Scoped.{IsName, IsScoped, ArmsNamed, FormScoped, NodeScoped}
 use Rattle.type_premises.proofs.Trees as Tr
 use Rattle.clock_premises.specs.Premises.{use_of, SchemesOf, FormGiven, AllGiven}
-use Rattle.clock_premises.proofs.Lists.{differ, or_parts, not_false, each_both, each_left, each_right}
+use Rattle.clock_premises.proofs.Lists.{or_parts, not_false, each_both, each_left, each_right}
 use Rattle.clock_premises.proofs.Walk as W
 use Rattle.clock_premises.proofs.Sites.{clock_number}
-use Rattle.clock_premises.proofs.Conditions as Co
 use Rattle.clock_premises.proofs.Conditions.{SameNames, expr_good}
 
 -- earlier definitions
 
-scheme_at : (es : List Earlier) (ss : List ClockScheme) → SchemesOf es ss → (j : ℕ) → SameNames (slice_get es j) (nth ss j)
+pub scheme_at : (es : List Earlier) (ss : List ClockScheme) → SchemesOf es ss → (j : ℕ) → SameNames (slice_get es j) (nth ss j)
 scheme_at [] [] h zero = tt
 scheme_at [] [] h (suc j) = tt
 scheme_at (e ∷ es) (s ∷ ss) h zero = h.0
@@ -65,7 +61,7 @@ scheme_at (e ∷ es) [] h j = absurd h
 
 -- no fault
 
-no_fault : (a b c e f : Bool) → (if a then Some Twice else if b then Some Unbound else if c then Some NotAllArms else if e then Some Mixed else if f then Some NotCombinatorial else None) ≡ None → (b ≡ false) × (e ≡ false)
+pub no_fault : (a b c e f : Bool) → (if a then Some Twice else if b then Some Unbound else if c then Some NotAllArms else if e then Some Mixed else if f then Some NotCombinatorial else None) ≡ None → (b ≡ false) × (e ≡ false)
 no_fault true b c e f h = absurd (cc)
 no_fault false true c e f h = absurd (cc)
 no_fault false false true e f h = absurd (cc)
@@ -74,11 +70,11 @@ no_fault false false false false f h = (refl, refl)
 
 -- each item that is there
 
-record Item {A : Type 0} (o : Option A) : Type 0 where
+pub record Item {A : Type 0} (o : Option A) : Type 0 where
   pub item : A
   pub is : o ≡ Some item
 
-item_at : {A : Type 0} (xs : List A) (k : ℕ) → k < length xs → Item (slice_get xs k)
+pub item_at : {A : Type 0} (xs : List A) (k : ℕ) → k < length xs → Item (slice_get xs k)
 item_at [] k l = absurd (omega (arith, l))
 item_at (x ∷ xs) zero l = record { item = x; is = refl }
 item_at (x ∷ xs) (suc k) l = item_at xs k (omega (arith, l))
@@ -87,7 +83,7 @@ item_if : (b : Bool) (m : ℕ) (o : Option ℕ) → (b ≡ false → Item o) →
 item_if true m o h = record { item = m; is = refl }
 item_if false m o h = h refl
 
-clock_found : (x : ℕ) (ns : List Named) (m : ℕ) → list_any (is_clock_of x) ns ≡ true → Item (clock_name x ns m)
+pub clock_found : (x : ℕ) (ns : List Named) (m : ℕ) → list_any (is_clock_of x) ns ≡ true → Item (clock_name x ns m)
 clock_found x [] m h = absurd (cc)
 clock_found x (n ∷ ns) m h = item_if (is_clock_of x n) m (clock_name x ns (suc m)) (λ e. clock_found x ns (suc m) (sym (ap (λ b. b || list_any (is_clock_of x) ns) e) ∙ h))
 
@@ -120,7 +116,7 @@ after_case (x ∷ xs) (suc k) = elim (after_case xs k) [
   | inr a ↦ let h = a.at' in inr (record { left = a.left; is = a.is; at' = omega (arith, h) })
 ]
 
-param_found : (ps : List Pat) (k i : ℕ) → k < length (P.joined (map P.names_of ps)) → Item (param_at k ps i)
+pub param_found : (ps : List Pat) (k i : ℕ) → k < length (P.joined (map P.names_of ps)) → Item (param_at k ps i)
 param_found [] k i l = absurd (omega (arith, l))
 param_found (p ∷ ps) k i l = elim (after_case (FP.names_of p) k) [
   | inl e ↦ record { item = i; is = ap (param_here i (λ r. param_at r ps (suc i))) e }
@@ -134,11 +130,11 @@ param_found (p ∷ ps) k i l = elim (after_case (FP.names_of p) k) [
 
 -- a name is no constructor
 
-abbrev is_case : Binder → Bool
+abbrev pub is_case : Binder → Bool
 is_case (binder.Case t k) = true
 is_case _ = false
 
-no_case : (o p q : Option ℕ) → is_case (var_binder o (param_binder p (def_binder q))) ≡ false
+pub no_case : (o p q : Option ℕ) → is_case (var_binder o (param_binder p (def_binder q))) ≡ false
 no_case (Some k) p q = refl
 no_case None (Some k) q = refl
 no_case None None (Some k) = refl
@@ -148,7 +144,7 @@ long_marks : (asks : List Asked) (ps : List Pat) (k : ℕ) → length (F.marks_f
 long_marks asks [] k = refl
 long_marks asks (p ∷ ps) k = ap suc (long_marks asks ps (k + length (P.names_of p)))
 
-or_false : (a : Bool) → a || false ≡ false → a ≡ false
+pub or_false : (a : Bool) → a || false ≡ false → a ≡ false
 or_false true h = h
 or_false false h = refl
 
@@ -185,7 +181,7 @@ module _ (d : Judged Plain) (schemes : List ClockScheme) (cases : ℕ → Option
   faultless : (F.unbound d ≡ false) × (F.mixed d ≡ false)
   faultless = no_fault (F.twice d) (F.unbound d) (F.not_all_arms d) (F.mixed d) (F.not_combinatorial d) sound
 
-  none_unbound : any_claim (F.unbound_claim d) (F.asks d) ≡ false
+  pub none_unbound : any_claim (F.unbound_claim d) (F.asks d) ≡ false
   none_unbound =
       let a = list_any (λ (s : ℕ × Place). not (F.equation_of d s.1 s.0)) (F.contents d).starts in
       let b = list_any (λ (as' : List (Option ℕ)). list_any (λ c. not (F.is_there d.known c)) (F.named_arms d as')) (F.contents d).arms in
@@ -193,7 +189,7 @@ module _ (d : Judged Plain) (schemes : List ClockScheme) (cases : ℕ → Option
       let q = any_claim (F.unbound_claim d) (F.asks d) in
       (or_parts c q (or_parts b (c || q) (or_parts a (b || (c || q)) faultless.0).1).1).1
 
-  none_mixed : any_claim (F.mixed_claim d) (F.asks d) ≡ false
+  pub none_mixed : any_claim (F.mixed_claim d) (F.asks d) ≡ false
   none_mixed =
       let a = list_any (F.mixed_site d) (F.contents d).sites in
       let b = list_any (F.mixed_start d) (F.contents d).starts in
@@ -204,7 +200,7 @@ module _ (d : Judged Plain) (schemes : List ClockScheme) (cases : ℕ → Option
   both_false true b x y = x
   both_false false b x y = y
 
-  any_both : (p : Place) (cs : List Claim) → list_any (F.unbound_claim d p) cs ≡ false → list_any (F.mixed_claim d p) cs ≡ false → list_any (bad p) cs ≡ false
+  pub any_both : (p : Place) (cs : List Claim) → list_any (F.unbound_claim d p) cs ≡ false → list_any (F.mixed_claim d p) cs ≡ false → list_any (bad p) cs ≡ false
   any_both p [] x y = refl
   any_both p (c ∷ cs) x y =
       let x' = or_parts (F.unbound_claim d p c) (list_any (F.unbound_claim d p) cs) x in

@@ -4,7 +4,6 @@ use Rattle.std.specs.List.{list_any}
 use Rattle.std.proofs.Common.{ap, ap₂, sym, ◌∙◌, subst, arith}
 use Rattle.ls_sig.specs.declared.binder.Note.{Note}
 use Rattle.ls_places.specs.Places as F
-use Rattle.ls_places.specs.declared.places.Named.{Named}
 use Rattle.ls_places.specs.declared.places.Variable.{Variable}
 use Rattle.tree_notes.specs.Each.{Each}
 use Rattle.scope_rules.specs.Places as P
@@ -16,7 +15,7 @@ use Rattle.clock_rules.specs.Facts.{Facts}
 use Rattle.clock_rules.specs.Rules.{is_clock_of}
 use Rattle.clock_rules.specs.declared.scheme.ClockScheme.{ClockScheme}
 use Rattle.clock_premises.proofs.Lists.{or_parts, map_on, each_both, same_number}
-use Rattle.clock_premises.proofs.Walk.{Good, Clocked, Clock, HasClock, first}
+use Rattle.clock_premises.proofs.Walk.{Good, Clocked, Clock}
 
 abbrev Key : Type 0
 Key = ℕ × Place

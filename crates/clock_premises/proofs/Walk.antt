@@ -1,7 +1,7 @@
 -- The arms in a body are those of its blocks, and each name that scope takes for a clock name has one.
-use Rattle.std.specs.Prelude.{◌≡◌, refl, ℕ, zero, suc, ◌+◌, ◌-◌, ◌==◌, ◌&&◌, ◌||◌, not, nat_lt, Bool, true, false, List, [], ◌∷◌, ◌++◌, map, length, slice_set, Option, Some, None, option_map, unwrap_or, is_some, if◌then◌else◌}
+use Rattle.std.specs.Prelude.{◌≡◌, refl, ℕ, zero, suc, ◌+◌, ◌-◌, ◌==◌, ◌&&◌, ◌||◌, not, nat_lt, Bool, true, false, List, [], ◌∷◌, ◌++◌, map, length, slice_set, Option, Some, None, option_map, unwrap_or, if◌then◌else◌}
 use Rattle.std.specs.List.{list_any}
-use Rattle.std.proofs.Common.{ap, ap₂, sym, ◌∙◌, subst, arith, append_assoc, length-append}
+use Rattle.std.proofs.Common.{ap, ap₂, sym, ◌∙◌, subst, arith, append_assoc}
 use Rattle.std.proofs.lemmas.Bool.{ltb-true}
 use Rattle.ls_ast.specs.declared.tree.Pat.{Pat}
 use Rattle.ls_ast.specs.declared.tree.BodyOf.{BodyOf}
@@ -22,7 +22,6 @@ use Rattle.ls_places.specs.declared.places.Right.{Right}
 use Rattle.ls_places.specs.declared.places.Right.TheVariants as rhs
 use Rattle.ls_places.specs.declared.places.Variable.{Variable}
 use Rattle.ls_places.specs.declared.places.Whole.{Whole}
-use Rattle.ls_places.specs.declared.places.Site as found_site
 use Rattle.tree_notes.specs.Each.{Each}
 use Rattle.tree_notes.proofs.RelatedEquations.{related_equations, lefts_Equation, lefts_Arm, lefts_Guard, lefts_Handler, lefts_State, lefts_Test, rights_Equation, rights_Arm, rights_Guard, rights_Handler, rights_State, rights_Test}
 use Rattle.scope_rules.specs.Places as P
@@ -115,7 +114,7 @@ abbrev opens : Named → Bool
 opens n = no_clock (Some n)
 
 abbrev opened : Option Bool → Bool
-opened None = true
+opened None = false
 opened (Some b) = b
 
 opened_at : (ns : List Named) (i : ℕ) → no_clock (nth ns i) ≡ opened (nth (map opens ns) i)

@@ -29,7 +29,6 @@ use Rattle.clock_rules.specs.declared.scheme.ClockScheme.{ClockScheme}
 use Rattle.clock_rules.specs.Facts.{Facts}
 use Rattle.clock_rules.specs.Files.{clock_marks, scheme}
 use Rattle.clock_rules.specs.Fresh.{erase, facts_of}
-use Rattle.clock_rules.specs.Layers.{Layer}
 use Rattle.clock_laws.specs.Scoped.{IsScoped}
 
 -- the note of a resolved tree
