@@ -20,9 +20,9 @@ use Rattle.type_infer.specs.declared.fault.TypeFault.{TypeFault}
 use Rattle.type_infer.specs.declared.fault.TypeFault.TheVariants as types
 use Rattle.type_premises.specs.Premises.{FunctionsOfScope}
 use Rattle.clock_rules.specs.Files.{with_schemes}
-use Rattle.accepted_rules.specs.Accepted.{type_limit, AreTypes, AreClocks, AreInits, AreRanks}
+use Rattle.accepted_rules.specs.Accepted.{type_limit, AreTypes, AreClocks, AreInits}
 use Rattle.accepted_rules.specs.Enums.{enum_names, enum_constructors}
-use Rattle.ls_front.specs.Front.{IsInside, IsSane, IllTypedAt, CausalityFails, InitFails, ClocksFail, TypesFail, TypesAccepted, ClocksAccepted, InitAccepted, IsKept, BlamedAt, NamesAccepted, FileFails, signatures_of_file}
+use Rattle.ls_front.specs.Front.{IsInside, IsSane, IllTypedAt, InitFails, ClocksFail, TypesFail, TypesAccepted, ClocksAccepted, InitAccepted, IsKept, BlamedAt, FileAccepted, FileFails, signatures_of_file}
 use Rattle.ls_front.specs.declared.checked.Checked.{Checked}
 use Rattle.ls_front.specs.declared.fault.FrontFault.{FrontFault}
 use Rattle.ls_front.specs.declared.fault.FrontFault.TheVariants as fails
@@ -49,35 +49,23 @@ ill_at file r types.NoMemory is some ill = absurd (some refl)
 
 -- ---- a later judgement's fault is one of the file
 
-pub cause_fails : (ann : FileOf Note) (inits : InitSigs) → AreInits ann inits → (f : FrontFault) → CausalityFails ann f → InitFails ann f
-cause_fails ann inits i (fails.Cause f) h = (inits, i, h)
-cause_fails ann inits i fails.NoMemory h = tt
-cause_fails ann inits i (fails.Lex f) h = absurd h
-cause_fails ann inits i (fails.Syntax f) h = absurd h
-cause_fails ann inits i (fails.Scope f) h = absurd h
-cause_fails ann inits i (fails.Types f) h = absurd h
-cause_fails ann inits i (fails.Clocks f) h = absurd h
-cause_fails ann inits i (fails.Init f) h = absurd h
-
 pub init_fails : (typed : FileOf TypeNote) (ann : FileOf Note) → AreClocks typed ann → (f : FrontFault) → InitFails ann f → ClocksFail typed f
-init_fails typed ann c (fails.Cause f) h = (ann, c, h)
 init_fails typed ann c (fails.Init f) h = (ann, c, h)
 init_fails typed ann c fails.NoMemory h = tt
 init_fails typed ann c (fails.Lex f) h = (ann, c, h)
 init_fails typed ann c (fails.Syntax f) h = (ann, c, h)
 init_fails typed ann c (fails.Scope f) h = (ann, c, h)
 init_fails typed ann c (fails.Types f) h = (ann, c, h)
-init_fails typed ann c (fails.Clocks f) (inits, i, never) = absurd never
+init_fails typed ann c (fails.Clocks f) h = absurd h
 
 pub clocks_fail : (file : FileOf Use) (typed : FileOf TypeNote) (sigs : List Sig) → AreTypes file typed sigs → (f : FrontFault) → ClocksFail typed f → TypesFail file f
-clocks_fail file typed sigs t (fails.Cause f) h = (typed, sigs, t, h)
 clocks_fail file typed sigs t (fails.Init f) h = (typed, sigs, t, h)
 clocks_fail file typed sigs t (fails.Clocks f) h = (typed, sigs, t, h)
 clocks_fail file typed sigs t fails.NoMemory h = tt
 clocks_fail file typed sigs t (fails.Lex f) h = (typed, sigs, t, h)
 clocks_fail file typed sigs t (fails.Syntax f) h = (typed, sigs, t, h)
 clocks_fail file typed sigs t (fails.Scope f) h = (typed, sigs, t, h)
-clocks_fail file typed sigs t (fails.Types f) (ann, c, inits, i, never) = absurd never
+clocks_fail file typed sigs t (fails.Types f) (ann, c, never) = absurd never
 
 pub blamed_at : (file : FileOf Plain) (f : ScopeFault) → f ≢ scope.NoMemory → Blames f (scope_fault empty file) → BlamedAt file f
 blamed_at file (scope.Twice line) some b = b
@@ -91,15 +79,14 @@ later_fails : (file : FileOf Plain) → scope_fault empty file ≡ None → (f :
 later_fails file fine (fails.Types f) h = (fine, h)
 later_fails file fine (fails.Clocks f) h = (fine, h)
 later_fails file fine (fails.Init f) h = (fine, h)
-later_fails file fine (fails.Cause f) h = (fine, h)
 later_fails file fine fails.NoMemory h = tt
 later_fails file fine (fails.Lex f) h = (fine, h)
 later_fails file fine (fails.Syntax f) h = (fine, h)
-later_fails file fine (fails.Scope f) (typed, sigs, t, ann, c, inits, i, never) = absurd never
+later_fails file fine (fails.Scope f) (typed, sigs, t, ann, c, never) = absurd never
 
 -- ---- all judgements hold
 
-all_hold : (file : FileOf Plain) (r : Checked) → scope_fault empty file ≡ None → TypesAccepted (resolved empty file) r → NamesAccepted file r
+all_hold : (file : FileOf Plain) (r : Checked) → scope_fault empty file ≡ None → TypesAccepted (resolved empty file) r → FileAccepted file r
 all_hold file r fine (typed, sigs, t, ann, c, inits, i, k) = record {
   typed = typed;
   typed_sigs = sigs;
@@ -107,7 +94,6 @@ all_hold file r fine (typed, sigs, t, ann, c, inits, i, k) = record {
   are_types = t;
   are_clocks = subst (AreClocks typed) (sym k.same_ann) c;
   are_inits = subst (λ a. AreInits a r.inits) (sym k.same_ann) (subst (AreInits ann) (sym k.same_inits) i);
-  are_ranks = subst (λ a. AreRanks a r.ranks) (sym k.same_ann) k.ranked;
   are_sigs = k.signed ∙ ap (λ (a : FileOf Note). with_schemes sigs a.defs) (sym k.same_ann);
   are_enums = k.enums_named ∙ ap (λ (a : FileOf Note). enum_names a.defs) (sym k.same_ann);
   are_constructors = k.constructors_named ∙ ap (λ (a : FileOf Note). enum_constructors a.defs) (sym k.same_ann);
@@ -119,9 +105,9 @@ sane_scope law file = law (case_type empty (resolved empty file)) type_limit emp
 
 -- the judgements on a file whose names are resolved are those on the file
 pub passed_on : FunctionsOfScope → (file : FileOf Plain) (names : FileOf Use) (r : Result Checked FrontFault) → scope_fault empty file ≡ None → names ≡ resolved empty file
-    → (IsSane names → IfOk r (λ a. TypesAccepted names a)) → IfOk r (λ a. NamesAccepted file a)
+    → (IsSane names → IfOk r (λ a. TypesAccepted names a)) → IfOk r (λ a. FileAccepted file a)
 passed_on law file names r fine same h =
-    ok_to (TypesAccepted names) (NamesAccepted file) r (λ a t. all_hold file a fine (subst (λ f. TypesAccepted f a) same t)) (h (subst IsSane (sym same) (sane_scope law file)))
+    ok_to (TypesAccepted names) (FileAccepted file) r (λ a t. all_hold file a fine (subst (λ f. TypesAccepted f a) same t)) (h (subst IsSane (sym same) (sane_scope law file)))
 
 pub failed_on : FunctionsOfScope → (file : FileOf Plain) (names : FileOf Use) (r : Result Checked FrontFault) → scope_fault empty file ≡ None → names ≡ resolved empty file
     → (IsSane names → IfErr r (λ f. TypesFail names f)) → IfErr r (λ f. FileFails file f)

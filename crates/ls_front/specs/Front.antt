@@ -31,27 +31,11 @@ use Rattle.clock_infer.specs.declared.file.ClockFault.TheVariants as clocks
 use Rattle.init_rules.specs.Files as init_files
 use Rattle.init_check.specs.declared.file.InitFault.{InitFault}
 use Rattle.init_check.specs.declared.file.InitFault.TheVariants as init
-use Rattle.causality_rules.specs.Files as cause_files
-use Rattle.causality.specs.declared.file.CauseFault.{CauseFault}
-use Rattle.causality.specs.declared.file.CauseFault.TheVariants as cause
-use Rattle.accepted_rules.specs.Accepted.{type_limit, AreTypes, AreClocks, AreInits, AreRanks, Accepts}
+use Rattle.accepted_rules.specs.Accepted.{type_limit, AreTypes, AreClocks, AreInits}
 use Rattle.accepted_rules.specs.Enums.{enum_names, enum_constructors}
-use Rattle.accepted_rules.specs.declared.accepted.Accepted.{Accepted}
 use Rattle.ls_front.specs.declared.fault.FrontFault.{FrontFault}
 use Rattle.ls_front.specs.declared.fault.FrontFault.TheVariants as fails
 use Rattle.ls_front.specs.declared.checked.Checked.{Checked}
-
--- ---- causality
-
--- the definition at the fault's line is the first of which items wait for one another, and these do
-abbrev pub CyclicAt : FileOf Note → CauseFault → Type 0
-CyclicAt ann (cause.Cyclic line items) = (items ≢ []) × cause_files.Looped (cause_files.lets (case_place ann.defs) ann.defs) line items
-CyclicAt ann cause.NoMemory = ⊥
-
-abbrev pub CausalityFails : FileOf Note → FrontFault → Type 0
-CausalityFails ann (fails.Cause f) = CyclicAt ann f
-CausalityFails ann fails.NoMemory = Unit {0}
-CausalityFails ann _ = ⊥
 
 -- ---- initialisation
 
@@ -63,7 +47,7 @@ UninitialisedAt ann init.NoMemory = ⊥
 abbrev pub InitFails : FileOf Note → FrontFault → Type 0
 InitFails ann (fails.Init f) = UninitialisedAt ann f
 InitFails ann fails.NoMemory = Unit {0}
-InitFails ann f = (inits : InitSigs) × AreInits ann inits × CausalityFails ann f
+InitFails ann _ = ⊥
 
 -- ---- clocks
 
@@ -105,8 +89,17 @@ FileFails file (fails.Scope f) = BlamedAt file f
 FileFails file fails.NoMemory = Unit {0}
 FileFails file f = (scope_fault empty file ≡ None) × TypesFail (resolved empty file) f
 
-abbrev pub FileAccepted : FileOf Plain → Accepted → Type 0
-FileAccepted file r = Accepts file r.ann r.sigs r.inits r.ranks r.enums r.constructors
+-- the judgements hold of the file, and give these
+pub record FileAccepted (file : FileOf Plain) (r : Checked) : Type 0 where
+  pub typed : FileOf TypeNote
+  pub typed_sigs : List Sig
+  pub scope : scope_fault empty file ≡ None
+  pub are_types : AreTypes (resolved empty file) typed typed_sigs
+  pub are_clocks : AreClocks typed r.ann
+  pub are_inits : AreInits r.ann r.inits
+  pub are_sigs : r.sigs ≡ clock_files.with_schemes typed_sigs r.ann.defs
+  pub are_enums : r.enums ≡ enum_names r.ann.defs
+  pub are_constructors : r.constructors ≡ enum_constructors r.ann.defs
 
 -- ---- tokens and grammar
 
@@ -114,7 +107,7 @@ FileAccepted file r = Accepts file r.ann r.sigs r.inits r.ranks r.enums r.constr
 abbrev pub Spell : Tokens → FileOf Plain → Type 0
 Spell tokens file = IsFile file.defs tokens.list × (file.names ≡ tokens.names)
 
-abbrev pub AreAccepted : Tokens → Accepted → Type 0
+abbrev pub AreAccepted : Tokens → Checked → Type 0
 AreAccepted tokens r = (file : FileOf Plain) × Spell tokens file × FileAccepted file r
 
 abbrev pub IsStop : Tokens → SyntaxFault → Type 0
@@ -129,7 +122,7 @@ TokensFail tokens f = (file : FileOf Plain) × Spell tokens file × FileFails fi
 -- ---- the whole
 
 -- all judgements hold, and this is what they give
-abbrev pub IsAccepted : List ℕ → Accepted → Type 0
+abbrev pub IsAccepted : List ℕ → Checked → Type 0
 IsAccepted text r = (tokens : Tokens) × Lexes text tokens × AreAccepted tokens r
 
 -- the first judgement that fails, with its fault
@@ -146,7 +139,6 @@ IsInside (fails.Scope f) = f ≢ scope.NoMemory
 IsInside (fails.Types f) = f ≢ types.NoMemory
 IsInside (fails.Clocks f) = f ≢ clocks.NoMemory
 IsInside (fails.Init f) = f ≢ init.NoMemory
-IsInside (fails.Cause f) = f ≢ cause.NoMemory
 IsInside fails.NoMemory = Unit {0}
 
 -- ---- on the way
@@ -155,11 +147,10 @@ IsInside fails.NoMemory = Unit {0}
 abbrev pub signatures_of_file : FileOf TypeNote → List Sig
 signatures_of_file typed = signatures_of (lets typed.defs)
 
--- what is kept of a file with these clocks and initialisation signatures, whose items have numbers, behind these types
+-- what is kept of a file with these clocks and initialisation signatures, behind these types
 pub record IsKept (typed_sigs : List Sig) (ann : FileOf Note) (inits : InitSigs) (r : Checked) : Type 0 where
   pub same_ann : r.ann ≡ ann
   pub same_inits : r.inits ≡ inits
-  pub ranked : AreRanks ann r.ranks
   pub signed : r.sigs ≡ clock_files.with_schemes typed_sigs ann.defs
   pub enums_named : r.enums ≡ enum_names ann.defs
   pub constructors_named : r.constructors ≡ enum_constructors ann.defs
@@ -172,6 +163,3 @@ ClocksAccepted typed sigs r = (ann : FileOf Note) × AreClocks typed ann × Init
 
 abbrev pub TypesAccepted : FileOf Use → Checked → Type 0
 TypesAccepted file r = (typed : FileOf TypeNote) × (sigs : List Sig) × AreTypes file typed sigs × ClocksAccepted typed sigs r
-
-abbrev pub NamesAccepted : FileOf Plain → Checked → Type 0
-NamesAccepted file r = Accepts file r.ann r.sigs r.inits r.ranks r.enums r.constructors

@@ -1,15 +1,19 @@
-//! What the judgements give, before it is accepted.
+//! What the judgements on a file give.
 
 use ls_base::{List, Name};
-use ls_sig::{Ann, InitSigs, Ranks, Sig};
+use ls_sig::{Ann, InitSigs, Sig};
 
-/// What the judgements on a file give.
-#[derive(Drop)]
-pub(crate) struct Checked {
+/// A file that passed the judgements, with what they give.
+#[derive(Debug, Drop)]
+pub struct Checked {
+    /// The trees, with a type and a clock at each place.
     pub ann: Ann,
+    /// The signature of each definition: principal types and clocks.
     pub sigs: List<Sig>,
+    /// The initialisation signature of each definition.
     pub inits: InitSigs,
-    pub ranks: Ranks,
+    /// The name of each enumeration, by its number.
     pub enums: List<Name>,
+    /// The constructors of each enumeration, by its number.
     pub constructors: List<List<Name>>,
 }

@@ -1,6 +1,5 @@
 //! The first judgement that a file fails.
 
-use causality::CauseFault;
 use clock_infer::ClockFault;
 use init_check::InitFault;
 use ls_base::NoMemory;
@@ -11,7 +10,7 @@ use thiserror::Error;
 use type_infer::TypeFault;
 
 /// The first judgement that a file fails, with its fault; a fault inside is never want of memory.
-#[derive(Debug, Drop, Error)]
+#[derive(Clone, Copy, Debug, PartialEq, Eq, Error)]
 pub enum FrontFault {
     /// The text is no row of tokens.
     #[error("the text is no row of tokens")]
@@ -31,9 +30,6 @@ pub enum FrontFault {
     /// A stream may be used where it is not defined yet.
     #[error("a definition is not initialised")]
     Init(InitFault),
-    /// Streams wait for one another within an instant.
-    #[error("a definition is not causal")]
-    Cause(CauseFault),
     /// A block of memory was refused.
     #[error("out of memory")]
     NoMemory,

@@ -1,4 +1,4 @@
-//! The whole front end: from bytes to an accepted file.
+//! The front end: from bytes to trees with types and clocks.
 
 ghost use Rattle.std.specs.Prelude.{◌≡◌, ◌<◌, length, IfOk, IfErr};
 ghost use Rattle.ls_front.specs.Front as spec;
@@ -6,7 +6,6 @@ ghost use Rattle.ls_front.specs.Front as spec;
 use crate::checked::Checked;
 use crate::fault::FrontFault;
 use crate::trees::judge_names;
-use accepted_rules::Accepted;
 use ls_ast::File;
 use ls_lexer::{LexFault, Tokens, lex};
 use ls_parser::{SyntaxFault, parse};
@@ -14,10 +13,10 @@ use ls_scope::{ScopeFault, resolve};
 use std::alloc::Global;
 use type_premises::laws;
 
-/// Judges a file by its text: tokens, grammar, scope of names, types, clocks, initialisation and
-/// causality, each over the whole file before the next. The answer is what they give, or the first
-/// fault of the first judgement that the file fails.
-pub fn front(alloc: Global, bytes: &[u8]) -> Result<Accepted, FrontFault>
+/// Judges a file by its text: tokens, grammar, scope of names, types, clocks and initialisation,
+/// each over the whole file before the next. The answer is what they give, or the first fault of
+/// the first judgement that the file fails.
+pub fn front(alloc: Global, bytes: &[u8]) -> Result<Checked, FrontFault>
     requires short { length bytes.now < 4294967295 }
     ensures accepted { IfOk result (λ r. spec.IsAccepted bytes.now r) }
     ensures fault { IfErr result (λ f. spec.IsFault bytes.now f) }
@@ -30,7 +29,7 @@ pub fn front(alloc: Global, bytes: &[u8]) -> Result<Accepted, FrontFault>
     }
 }
 
-fn judge_tokens(alloc: Global, tokens: &Tokens) -> Result<Accepted, FrontFault>
+fn judge_tokens(alloc: Global, tokens: &Tokens) -> Result<Checked, FrontFault>
     ensures accepted { IfOk result (λ r. spec.AreAccepted tokens.now r) }
     ensures fault { IfErr result (λ f. spec.TokensFail tokens.now f) }
     ensures inside { IfErr result (λ f. spec.IsInside f) }
@@ -42,17 +41,8 @@ fn judge_tokens(alloc: Global, tokens: &Tokens) -> Result<Accepted, FrontFault>
     }
 }
 
-fn judge_file(alloc: Global, file: &File) -> Result<Accepted, FrontFault>
+fn judge_file(alloc: Global, file: &File) -> Result<Checked, FrontFault>
     ensures accepted { IfOk result (λ r. spec.FileAccepted file.now r) }
-    ensures fault { IfErr result (λ f. spec.FileFails file.now f) }
-    ensures inside { IfErr result (λ f. spec.IsInside f) }
-{
-    let found = judge_scope(alloc, file)?;
-    Ok(accept(file, found))
-}
-
-fn judge_scope(alloc: Global, file: &File) -> Result<Checked, FrontFault>
-    ensures accepted { IfOk result (λ r. spec.NamesAccepted file.now r) }
     ensures fault { IfErr result (λ f. spec.FileFails file.now f) }
     ensures inside { IfErr result (λ f. spec.IsInside f) }
 {
@@ -63,28 +53,5 @@ fn judge_scope(alloc: Global, file: &File) -> Result<Checked, FrontFault>
         }
         Err(ScopeFault::NoMemory) => Err(FrontFault::NoMemory),
         Err(fault) => Err(FrontFault::Scope(fault)),
-    }
-}
-
-/// What all judgements on a file gave, as an accepted file.
-fn accept(file: &File, found: Checked) -> Accepted
-    requires accepted { spec.NamesAccepted file.now found }
-    ensures accepted { spec.FileAccepted file.now result }
-{
-    let Checked {
-        ann,
-        sigs,
-        inits,
-        ranks,
-        enums,
-        constructors,
-    } = found;
-    Accepted {
-        ann,
-        sigs,
-        inits,
-        ranks,
-        enums,
-        constructors,
     }
 }

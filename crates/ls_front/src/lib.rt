@@ -7,5 +7,6 @@ mod fault;
 mod judgements;
 mod trees;
 
+pub use checked::Checked;
 pub use fault::FrontFault;
 pub use judgements::front;

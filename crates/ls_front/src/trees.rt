@@ -1,17 +1,14 @@
-//! The judgements on a tree whose names are resolved: types, clocks, initialisation, causality.
+//! The judgements on a tree whose names are resolved: types, clocks, initialisation.
 
 ghost use Rattle.std.specs.Prelude.{◌≡◌, IfOk, IfErr};
-ghost use Rattle.accepted_rules.specs.Accepted.{AreRanks, AreTypes};
 ghost use Rattle.ls_front.specs.Front as spec;
 
 use crate::checked::Checked;
 use crate::enums::{enum_constructors, enum_names};
 use crate::fault::FrontFault;
-use causality::{CauseFault, check_causality};
 use clock_infer::{ClockFault, clock_signatures, infer_clocks};
 use init_check::{InitFault, check_init};
-use ls_base::List;
-use ls_sig::{Ann, Env, InitSigs, Ranks, Resolved, Sig, Typed};
+use ls_sig::{Ann, Env, InitSigs, Resolved, Typed};
 use std::alloc::Global;
 use type_infer::{TypeFault, infer_types};
 use type_schemes::type_signatures;
@@ -49,27 +46,9 @@ fn judge_clocked(alloc: Global, typed: &Typed, ann: Ann) -> Result<Checked, Fron
     ensures inside { IfErr result (λ f. spec.IsInside f) }
 {
     match check_init(alloc, &ann) {
-        Ok(inits) => judge_initialised(alloc, typed, ann, inits),
+        Ok(inits) => keep(alloc, typed, ann, inits),
         Err(InitFault::NoMemory) => Err(FrontFault::NoMemory),
         Err(fault) => Err(FrontFault::Init(fault)),
-    }
-}
-
-/// Causality, and then all is kept.
-fn judge_initialised(
-    alloc: Global,
-    typed: &Typed,
-    ann: Ann,
-    inits: InitSigs,
-) -> Result<Checked, FrontFault>
-    ensures accepted { IfOk result (λ r. spec.IsKept (spec.signatures_of_file typed.now) ann inits r) }
-    ensures fault { IfErr result (λ f. spec.CausalityFails ann f) }
-    ensures inside { IfErr result (λ f. spec.IsInside f) }
-{
-    match check_causality(alloc, &ann) {
-        Ok(ranks) => keep(alloc, typed, ann, inits, ranks),
-        Err(CauseFault::NoMemory) => Err(FrontFault::NoMemory),
-        Err(fault) => Err(FrontFault::Cause(fault)),
     }
 }
 
@@ -79,9 +58,8 @@ fn keep(
     typed: &Typed,
     ann: Ann,
     inits: InitSigs,
-    ranks: Ranks,
 ) -> Result<Checked, FrontFault>
-    ensures kept { AreRanks ann ranks → IfOk result (λ r. spec.IsKept (spec.signatures_of_file typed.now) ann inits r) }
+    ensures kept { IfOk result (λ r. spec.IsKept (spec.signatures_of_file typed.now) ann inits r) }
     ensures fault { IfErr result (λ f. f ≡ FrontFault.NoMemory) }
 {
     let env = Env::empty(alloc)?;
@@ -93,7 +71,6 @@ fn keep(
         ann,
         sigs,
         inits,
-        ranks,
         enums,
         constructors,
     })

@@ -1,6 +1,6 @@
 -- What `check` writes of a file.
 use Rattle.std.specs.Prelude.{◌≡◌, ◌≢◌, ℕ, List, [], ◌∷◌, ◌++◌, Option, ◌⊎◌, codes}
-use Rattle.accepted_rules.specs.declared.accepted.Accepted.{Accepted}
+use Rattle.ls_front.specs.declared.checked.Checked.{Checked}
 use Rattle.clock_text.specs.Texts.{clock_line}
 use Rattle.ls_front.specs.Front.{IsAccepted, IsFault}
 use Rattle.ls_front.specs.declared.fault.FrontFault.{FrontFault}
@@ -9,9 +9,9 @@ use Rattle.ls_sig.specs.declared.sigs.Sig.{Sig}
 use Rattle.type_schemes.specs.Texts.{type_line}
 use Rattle.lsc_cli.specs.declared.status.Status.{Status}
 use Rattle.lsc_cli.specs.Outcome.{Outcome, Comes, done, refusal}
-use Rattle.lsc_cli.specs.Refusals.{cause_text, clocks_text, init_text, lex_text, scope_text, syntax_fault_text, types_text}
+use Rattle.lsc_cli.specs.Refusals.{clocks_text, init_text, lex_text, scope_text, syntax_fault_text, types_text}
 
-module _ (file : Accepted) where
+module _ (file : Checked) where
   -- the type and the clock of a definition, a line each
   abbrev pub signature_lines : Sig → List ℕ
   signature_lines s = (type_line file.ann.names file.enums s ++ codes "\n") ++ (clock_line file.ann.names file.constructors s ++ codes "\n")
@@ -21,7 +21,7 @@ module _ (file : Accepted) where
   all_lines (s ∷ ss) = signature_lines s ++ all_lines ss
 
 -- the types and clocks of the definitions of a file, in order
-abbrev pub check_lines : Accepted → List ℕ
+abbrev pub check_lines : Checked → List ℕ
 check_lines file = all_lines file file.sigs
 
 -- the refusal of the first judgement that fails
@@ -32,13 +32,12 @@ front_text (fails.Scope f) = scope_text f
 front_text (fails.Types f) = types_text f
 front_text (fails.Clocks f) = clocks_text f
 front_text (fails.Init f) = init_text f
-front_text (fails.Cause f) = cause_text f
 front_text fails.NoMemory = []
 
 -- what a file comes to that is checked
 pub data IsChecked (file : List ℕ) (outcome : Outcome) : Type 0 where
   Refused : (fault : FrontFault) → fault ≢ fails.NoMemory → IsFault file fault → outcome ≡ refusal (front_text fault) → IsChecked file outcome
-  Passed : (found : Accepted) → IsAccepted file found → outcome ≡ done (check_lines found) → IsChecked file outcome
+  Passed : (found : Checked) → IsAccepted file found → outcome ≡ done (check_lines found) → IsChecked file outcome
 
 -- this was written, with its status
 abbrev pub IsCheck : List ℕ → Status → Option (List ℕ) → Option (List ℕ) → Type 0

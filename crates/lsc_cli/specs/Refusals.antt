@@ -11,8 +11,6 @@ use Rattle.clock_infer.specs.declared.file.ClockFault.{ClockFault}
 use Rattle.clock_infer.specs.declared.file.ClockFault.TheVariants as clocks
 use Rattle.init_check.specs.declared.file.InitFault.{InitFault}
 use Rattle.init_check.specs.declared.file.InitFault.TheVariants as init
-use Rattle.causality.specs.declared.file.CauseFault.{CauseFault}
-use Rattle.causality.specs.declared.file.CauseFault.TheVariants as cause
 use Rattle.step_text.specs.declared.fault.CodeFault.{CodeFault}
 use Rattle.step_text.specs.declared.fault.CodeFault.TheVariants as code
 use Rattle.ls_parser.specs.declared.definitions.SyntaxFault.{SyntaxFault}
@@ -62,11 +60,6 @@ clocks_text clocks.NoMemory = []
 abbrev pub init_text : InitFault → List ℕ
 init_text (init.Uninitialised line) = at_line (codes "refused: initialisation at line ") line
 init_text init.NoMemory = []
-
--- or not causal
-abbrev pub cause_text : CauseFault → List ℕ
-cause_text (cause.Cyclic line items) = at_line (codes "refused: causality at line ") line
-cause_text cause.NoMemory = []
 
 -- and where a text is no step code
 abbrev pub code_text : CodeFault → List ℕ

@@ -11,14 +11,12 @@ ghost use Rattle.lsc_cli.specs.Outcome.{Comes, done, refusal};
 ghost use Rattle.lsc_cli.specs.Status.{is_about_file};
 
 use crate::refusal::{
-    refuse_cause, refuse_clocks, refuse_init, refuse_scope, refuse_syntax, refuse_tokens,
-    refuse_types,
+    refuse_clocks, refuse_init, refuse_scope, refuse_syntax, refuse_tokens, refuse_types,
 };
 use crate::status::Status;
-use accepted_rules::Accepted;
 use clock_text::print_clock;
 use ls_base::{Sink, write_all};
-use ls_front::{FrontFault, front};
+use ls_front::{Checked, FrontFault, front};
 use ls_sig::Sig;
 use std::alloc::Global;
 use type_schemes::print_type;
@@ -33,7 +31,7 @@ pub(crate) fn check_text<K: Sink>(alloc: Global, text: &[u8], out: &mut K) -> St
     ensures untouched { result ≡ Status.NoMemory → out.new ≡ out.old }
 {
     match front(alloc, text) {
-        Ok(file) => write_accepted(&file, out),
+        Ok(file) => write_checked(&file, out),
         Err(FrontFault::NoMemory) => Status::NoMemory,
         Err(fault) => refuse_file(fault, out),
     }
@@ -54,13 +52,12 @@ fn refuse_file<K: Sink>(fault: FrontFault, out: &mut K) -> Status
         FrontFault::Types(fault) => refuse_types(fault, out),
         FrontFault::Clocks(fault) => refuse_clocks(fault, out),
         FrontFault::Init(fault) => refuse_init(fault, out),
-        FrontFault::Cause(fault) => refuse_cause(fault, out),
         FrontFault::NoMemory => unreachable!(),
     }
 }
 
 /// Writes the types and clocks of a file that is accepted.
-fn write_accepted<K: Sink>(file: &Accepted, out: &mut K) -> Status
+fn write_checked<K: Sink>(file: &Checked, out: &mut K) -> Status
     ensures outcome { Comes (done (check_lines file.now)) result (K.written out.old) (K.written out.new) }
     ensures status { (result ≡ Status.Done) ⊎ (result ≡ Status.WriteFault) }
     ensures write_fault { result ≡ Status.WriteFault → Rose (K.count out.old) (K.count out.new) }
@@ -73,7 +70,7 @@ fn write_accepted<K: Sink>(file: &Accepted, out: &mut K) -> Status
 }
 
 /// Writes the lines of each signature. Whether no write failed is answered.
-fn write_signatures<K: Sink>(file: &Accepted, out: &mut K) -> bool
+fn write_signatures<K: Sink>(file: &Checked, out: &mut K) -> bool
     ensures { Prints true result (K.written out.old) (K.written out.new) (K.count out.old) (K.count out.new) (check_lines file.now) }
 {
     let mut fine = true;
@@ -85,7 +82,7 @@ fn write_signatures<K: Sink>(file: &Accepted, out: &mut K) -> bool
 }
 
 /// Writes the lines of a signature, unless a write failed before.
-fn write_signature<K: Sink>(fine: bool, file: &Accepted, sig: &Sig, out: &mut K) -> bool
+fn write_signature<K: Sink>(fine: bool, file: &Checked, sig: &Sig, out: &mut K) -> bool
     ensures { Prints fine result (K.written out.old) (K.written out.new) (K.count out.old) (K.count out.new) (signature_lines file.now sig.now) }
 {
     let typed = write_type(fine, file, sig, out);
@@ -93,7 +90,7 @@ fn write_signature<K: Sink>(fine: bool, file: &Accepted, sig: &Sig, out: &mut K)
 }
 
 /// Writes the line of a signature's type, unless a write failed before.
-fn write_type<K: Sink>(fine: bool, file: &Accepted, sig: &Sig, out: &mut K) -> bool
+fn write_type<K: Sink>(fine: bool, file: &Checked, sig: &Sig, out: &mut K) -> bool
     ensures { Prints fine result (K.written out.old) (K.written out.new) (K.count out.old) (K.count out.new) (type_line file.now.ann.names file.now.enums sig.now ++ codes "\n") }
 {
     let told = tell_type(fine, file, sig, out);
@@ -101,7 +98,7 @@ fn write_type<K: Sink>(fine: bool, file: &Accepted, sig: &Sig, out: &mut K) -> b
 }
 
 /// Writes the line of a signature's clock, unless a write failed before.
-fn write_clock<K: Sink>(fine: bool, file: &Accepted, sig: &Sig, out: &mut K) -> bool
+fn write_clock<K: Sink>(fine: bool, file: &Checked, sig: &Sig, out: &mut K) -> bool
     ensures { Prints fine result (K.written out.old) (K.written out.new) (K.count out.old) (K.count out.new) (clock_line file.now.ann.names file.now.constructors sig.now ++ codes "\n") }
 {
     let told = tell_clock(fine, file, sig, out);
@@ -109,7 +106,7 @@ fn write_clock<K: Sink>(fine: bool, file: &Accepted, sig: &Sig, out: &mut K) -> 
 }
 
 /// Writes the name and the type of a signature, unless a write failed before.
-fn tell_type<K: Sink>(fine: bool, file: &Accepted, sig: &Sig, out: &mut K) -> bool
+fn tell_type<K: Sink>(fine: bool, file: &Checked, sig: &Sig, out: &mut K) -> bool
     ensures { Prints fine result (K.written out.old) (K.written out.new) (K.count out.old) (K.count out.new) (type_line file.now.ann.names file.now.enums sig.now) }
 {
     if !fine {
@@ -122,7 +119,7 @@ fn tell_type<K: Sink>(fine: bool, file: &Accepted, sig: &Sig, out: &mut K) -> bo
 }
 
 /// Writes the name and the clock of a signature, unless a write failed before.
-fn tell_clock<K: Sink>(fine: bool, file: &Accepted, sig: &Sig, out: &mut K) -> bool
+fn tell_clock<K: Sink>(fine: bool, file: &Checked, sig: &Sig, out: &mut K) -> bool
     ensures { Prints fine result (K.written out.old) (K.written out.new) (K.count out.old) (K.count out.new) (clock_line file.now.ann.names file.now.constructors sig.now) }
 {
     if !fine {

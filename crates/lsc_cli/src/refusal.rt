@@ -9,11 +9,9 @@ ghost use Rattle.ls_scope.specs.declared.fault.ScopeFault.{ScopeFault};
 ghost use Rattle.type_infer.specs.declared.fault.TypeFault.{TypeFault};
 ghost use Rattle.clock_infer.specs.declared.file.ClockFault.{ClockFault};
 ghost use Rattle.init_check.specs.declared.file.InitFault.{InitFault};
-ghost use Rattle.causality.specs.declared.file.CauseFault.{CauseFault};
-ghost use Rattle.lsc_cli.specs.Refusals.{at_line, cause_text, clocks_text, code_text, init_text, lex_text, scope_text, syntax_fault_text, syntax_text, types_text};
+ghost use Rattle.lsc_cli.specs.Refusals.{at_line, clocks_text, code_text, init_text, lex_text, scope_text, syntax_fault_text, syntax_text, types_text};
 
 use crate::status::Status;
-use causality::CauseFault;
 use clock_infer::ClockFault;
 use init_check::InitFault;
 use ls_base::{Failed, Line, Sink, write_all};
@@ -133,19 +131,6 @@ pub(crate) fn refuse_init<K: Sink>(fault: InitFault, out: &mut K) -> Status
             refuse_at(b"refused: initialisation at line ", line, out)
         }
         InitFault::NoMemory => unreachable!(),
-    }
-}
-
-/// Writes the refusal of a file with a definition that is not causal.
-pub(crate) fn refuse_cause<K: Sink>(fault: CauseFault, out: &mut K) -> Status
-    requires { fault ≢ CauseFault.NoMemory }
-    ensures outcome { Comes (refusal (cause_text fault)) result (K.written out.old) (K.written out.new) }
-    ensures status { (result ≡ Status.Refused) ⊎ (result ≡ Status.WriteFault) }
-    ensures write_fault { result ≡ Status.WriteFault → Rose (K.count out.old) (K.count out.new) }
-{
-    match fault {
-        CauseFault::Cyclic(line, _) => refuse_at(b"refused: causality at line ", line, out),
-        CauseFault::NoMemory => unreachable!(),
     }
 }
 

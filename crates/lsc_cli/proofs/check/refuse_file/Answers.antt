@@ -19,6 +19,3 @@ refuse_clocks-requires g c = subst IsInside c.in-Clocks.is c.requires.inside
 
 pub refuse_init-requires : goal.refuse_init-requires
 refuse_init-requires g c = subst IsInside c.in-Init.is c.requires.inside
-
-pub refuse_cause-requires : goal.refuse_cause-requires
-refuse_cause-requires g c = subst IsInside c.in-Cause.is c.requires.inside

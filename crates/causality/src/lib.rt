@@ -1,6 +1,0 @@
-//! stub
-#![tactic(auto)]
-
-mod file;
-
-pub use file::{CauseFault, check_causality};
