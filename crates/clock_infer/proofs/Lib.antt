@@ -1,0 +1,9 @@
+pub mod Answering
+pub mod Appearing
+pub mod Filing
+pub mod Firsts
+pub mod Judging
+pub mod Putting
+pub mod Signing
+pub mod Small
+pub mod Solving

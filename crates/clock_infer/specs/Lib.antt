@@ -1,0 +1,5 @@
+pub mod Filed
+pub mod Nodes
+pub mod Prepared
+pub mod Schemes
+pub mod Signatures
