@@ -1,1 +1,0 @@
-let node f x = y where last y = true and reset y = x every last y
