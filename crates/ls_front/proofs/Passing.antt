@@ -82,12 +82,12 @@ later_fails file fine (fails.Init f) h = (fine, h)
 later_fails file fine fails.NoMemory h = tt
 later_fails file fine (fails.Lex f) h = (fine, h)
 later_fails file fine (fails.Syntax f) h = (fine, h)
-later_fails file fine (fails.Scope f) (typed, sigs, t, ann, c, never) = absurd never
+later_fails file fine (fails.Scope f) (typed, sigs, t, (ann, c, never)) = absurd never
 
 -- ---- all judgements hold
 
 all_hold : (file : FileOf Plain) (r : Checked) → scope_fault empty file ≡ None → TypesAccepted (resolved empty file) r → FileAccepted file r
-all_hold file r fine (typed, sigs, t, ann, c, inits, i, k) = record {
+all_hold file r fine (typed, sigs, t, (ann, c, (inits, i, k))) = record {
   typed = typed;
   typed_sigs = sigs;
   scope = fine;

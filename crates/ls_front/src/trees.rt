@@ -53,12 +53,7 @@ fn judge_clocked(alloc: Global, typed: &Typed, ann: Ann) -> Result<Checked, Fron
 }
 
 /// What the judgements gave, with the signatures and the enumerations.
-fn keep(
-    alloc: Global,
-    typed: &Typed,
-    ann: Ann,
-    inits: InitSigs,
-) -> Result<Checked, FrontFault>
+fn keep(alloc: Global, typed: &Typed, ann: Ann, inits: InitSigs) -> Result<Checked, FrontFault>
     ensures kept { IfOk result (λ r. spec.IsKept (spec.signatures_of_file typed.now) ann inits r) }
     ensures fault { IfErr result (λ f. f ≡ FrontFault.NoMemory) }
 {
