@@ -8,12 +8,12 @@ use Rattle.ls_sig.specs.declared.binder.TypeNote.{TypeNote}
 use Rattle.ls_sig.specs.declared.binder.Use.{Use}
 use Rattle.ls_sig.specs.declared.sigs.Sig.{Sig}
 use Rattle.ls_terms.specs.declared.types.TypeTerm.{TypeTerm}
+use Rattle.type_rules.specs.Constructors.{case_type}
 use Rattle.type_rules.specs.Files.{LetOf, Judged, lets, in_place}
 use Rattle.type_schemes.specs.Signatures.{signatures_of}
-use Rattle.type_infer.specs.Constructors.{case_type}
 use Rattle.type_infer.specs.Files.{AreTyped}
-use Rattle.ls_front.specs.Front.{IsFinished, TypesAccepted, type_limit}
-use Rattle.ls_front.specs.declared.judgements.Checked.{Checked}
+use Rattle.accepted_rules.specs.Accepted.{type_limit, AreTypes}
+use Rattle.ls_front.specs.Front.{signatures_of_file}
 
 module _ (case_of : ℕ → Option TypeTerm) (limit : ℕ) where
   -- the annotated definitions are those in their places
@@ -35,14 +35,13 @@ module _ (case_of : ℕ → Option TypeTerm) (limit : ℕ) where
   signed sigs (d ∷ ds) (a ∷ as') [] j = absurd j
   signed sigs (d ∷ ds) (a ∷ as') (s ∷ ss) j = λ i. sym j.1 i ∷ signed (sigs ++ s ∷ []) ds as' ss j.2 i
 
-pub types_accepted : (file : FileOf Use) (typed : FileOf TypeNote) (r : Checked) → typed.names ≡ file.names
-    → AreTyped (case_type empty file) type_limit [] file.defs typed.defs → IsFinished file typed r → TypesAccepted file r
-types_accepted file typed r same t done =
-    let sigs : r.sigs ≡ t.1 =
-    done.sigs ∙ ap (λ ds. signatures_of (lets ds)) t.3 ∙ ap signatures_of (lets_there (case_type empty file) type_limit [] file.defs t.0 t.1 t.2) ∙ signed (case_type empty file) type_limit [] (lets file.defs) t.0 t.1 t.2 in
+pub are_types : (file : FileOf Use) (typed : FileOf TypeNote) → typed.names ≡ file.names
+    → AreTyped (case_type empty file) type_limit [] file.defs typed.defs → AreTypes file typed (signatures_of_file typed)
+are_types file typed same t =
+    let sigs : signatures_of_file typed ≡ t.1 =
+    ap (λ ds. signatures_of (lets ds)) t.3 ∙ ap signatures_of (lets_there (case_type empty file) type_limit [] file.defs t.0 t.1 t.2) ∙ signed (case_type empty file) type_limit [] (lets file.defs) t.0 t.1 t.2 in
     record {
       annotated = t.0;
       judged = subst (λ ss. Judged (case_type empty file) type_limit [] (lets file.defs) t.0 ss) (sym sigs) t.2;
-      typed = done.typed ∙ (λ i. record { defs = t.3 i; names = same i });
-      enums = done.enums;
+      typed_as = λ i. record { defs = t.3 i; names = same i };
     }

@@ -1,2 +1,1 @@
-pub mod Enums
 pub mod Front

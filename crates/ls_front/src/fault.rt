@@ -1,5 +1,7 @@
 //! The first judgement that a file fails.
 
+use clock_infer::ClockFault;
+use init_check::InitFault;
 use ls_base::NoMemory;
 use ls_lexer::LexFault;
 use ls_parser::SyntaxFault;
@@ -22,6 +24,12 @@ pub enum FrontFault {
     /// A definition has no types.
     #[error("a definition is not well typed")]
     Types(TypeFault),
+    /// A definition has no clocks.
+    #[error("a definition is not well clocked")]
+    Clocks(ClockFault),
+    /// A stream may be used where it is not defined yet.
+    #[error("a definition is not initialised")]
+    Init(InitFault),
     /// A block of memory was refused.
     #[error("out of memory")]
     NoMemory,

@@ -1,3 +1,3 @@
 pub mod ClosingLemmas
 pub mod JudgedLemmas
-pub mod TypeLines
+pub mod SignatureLines

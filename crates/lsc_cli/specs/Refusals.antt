@@ -7,6 +7,10 @@ use Rattle.ls_scope.specs.declared.fault.ScopeFault.{ScopeFault}
 use Rattle.ls_scope.specs.declared.fault.ScopeFault.TheVariants as scope
 use Rattle.type_infer.specs.declared.fault.TypeFault.{TypeFault}
 use Rattle.type_infer.specs.declared.fault.TypeFault.TheVariants as types
+use Rattle.clock_infer.specs.declared.file.ClockFault.{ClockFault}
+use Rattle.clock_infer.specs.declared.file.ClockFault.TheVariants as clocks
+use Rattle.init_check.specs.declared.file.InitFault.{InitFault}
+use Rattle.init_check.specs.declared.file.InitFault.TheVariants as init
 use Rattle.step_text.specs.declared.fault.CodeFault.{CodeFault}
 use Rattle.step_text.specs.declared.fault.CodeFault.TheVariants as code
 use Rattle.ls_parser.specs.declared.definitions.SyntaxFault.{SyntaxFault}
@@ -46,6 +50,16 @@ scope_text scope.NoMemory = []
 abbrev pub types_text : TypeFault → List ℕ
 types_text (types.IllTyped line) = at_line (codes "refused: type at line ") line
 types_text types.NoMemory = []
+
+-- or no clocks
+abbrev pub clocks_text : ClockFault → List ℕ
+clocks_text (clocks.IllClocked line) = at_line (codes "refused: clock at line ") line
+clocks_text clocks.NoMemory = []
+
+-- or is not initialised
+abbrev pub init_text : InitFault → List ℕ
+init_text (init.Uninitialised line) = at_line (codes "refused: initialisation at line ") line
+init_text init.NoMemory = []
 
 -- and where a text is no step code
 abbrev pub code_text : CodeFault → List ℕ

@@ -7,9 +7,13 @@ ghost use Rattle.lsc_cli.specs.Outcome.{Comes, refusal};
 ghost use Rattle.ls_parser.specs.declared.definitions.SyntaxFault.{SyntaxFault};
 ghost use Rattle.ls_scope.specs.declared.fault.ScopeFault.{ScopeFault};
 ghost use Rattle.type_infer.specs.declared.fault.TypeFault.{TypeFault};
-ghost use Rattle.lsc_cli.specs.Refusals.{at_line, code_text, lex_text, scope_text, syntax_fault_text, syntax_text, types_text};
+ghost use Rattle.clock_infer.specs.declared.file.ClockFault.{ClockFault};
+ghost use Rattle.init_check.specs.declared.file.InitFault.{InitFault};
+ghost use Rattle.lsc_cli.specs.Refusals.{at_line, clocks_text, code_text, init_text, lex_text, scope_text, syntax_fault_text, syntax_text, types_text};
 
 use crate::status::Status;
+use clock_infer::ClockFault;
+use init_check::InitFault;
 use ls_base::{Failed, Line, Sink, write_all};
 use ls_lexer::LexFault;
 use ls_parser::SyntaxFault;
@@ -99,6 +103,34 @@ pub(crate) fn refuse_types<K: Sink>(fault: TypeFault, out: &mut K) -> Status
     match fault {
         TypeFault::IllTyped(line) => refuse_at(b"refused: type at line ", line, out),
         TypeFault::NoMemory => unreachable!(),
+    }
+}
+
+/// Writes the refusal of a file with a definition that has no clocks.
+pub(crate) fn refuse_clocks<K: Sink>(fault: ClockFault, out: &mut K) -> Status
+    requires { fault ≢ ClockFault.NoMemory }
+    ensures outcome { Comes (refusal (clocks_text fault)) result (K.written out.old) (K.written out.new) }
+    ensures status { (result ≡ Status.Refused) ⊎ (result ≡ Status.WriteFault) }
+    ensures write_fault { result ≡ Status.WriteFault → Rose (K.count out.old) (K.count out.new) }
+{
+    match fault {
+        ClockFault::IllClocked(line) => refuse_at(b"refused: clock at line ", line, out),
+        ClockFault::NoMemory => unreachable!(),
+    }
+}
+
+/// Writes the refusal of a file with a definition that is not initialised.
+pub(crate) fn refuse_init<K: Sink>(fault: InitFault, out: &mut K) -> Status
+    requires { fault ≢ InitFault.NoMemory }
+    ensures outcome { Comes (refusal (init_text fault)) result (K.written out.old) (K.written out.new) }
+    ensures status { (result ≡ Status.Refused) ⊎ (result ≡ Status.WriteFault) }
+    ensures write_fault { result ≡ Status.WriteFault → Rose (K.count out.old) (K.count out.new) }
+{
+    match fault {
+        InitFault::Uninitialised(line) => {
+            refuse_at(b"refused: initialisation at line ", line, out)
+        }
+        InitFault::NoMemory => unreachable!(),
     }
 }
 

@@ -109,10 +109,14 @@ fn other_calls_are_refused(rt: HostRuntime) -> Result<(), Fail> {
 #[test]
 fn files_are_checked(rt: HostRuntime) -> Result<(), Fail> {
     let cases: [(&[u8], &[u8], Status); 6] = [
-        (SUM, b"val sum : int => int\n", Status::Done),
+        (
+            SUM,
+            b"val sum : int => int\nval sum :: 'a -> 'a\n",
+            Status::Done,
+        ),
         (
             b"let id x = x\nlet f x = x + 1\n",
-            b"val id : 'a -> 'a\nval f : int -> int\n",
+            b"val id : 'a -> 'a\nval id :: 'a -> 'a\nval f : int -> int\nval f :: 'a -> 'a\n",
             Status::Done,
         ),
         (b"", b"", Status::Done),

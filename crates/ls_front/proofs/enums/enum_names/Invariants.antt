@@ -1,5 +1,5 @@
 use Rattle.std.proofs.Common.{◌≡◌, ◌++◌, drop}
-use Rattle.ls_front.specs.Enums as spec
+use Rattle.accepted_rules.specs.Enums as spec
 use Rattle.ls_front.proofs.enums.enum_names.Given as goal
 
 abbrev pub invariant-loop-def : goal.invariant-loop-def

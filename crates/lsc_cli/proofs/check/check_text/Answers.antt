@@ -1,13 +1,13 @@
 use Rattle.std.proofs.Common.{◌≡◌, ◌≢◌, refl, rules}
 use Rattle.ls_front.specs.declared.fault.FrontFault.TheVariants.{NoMemory}
-use Rattle.lsc_cli.specs.Check.{Accepted, Refused, front_text, type_lines}
+use Rattle.lsc_cli.specs.Check.{Passed, Refused, front_text, check_lines}
 use Rattle.lsc_cli.specs.Outcome.{done, refusal}
-use Rattle.lsc_cli.proofs.TypeLines.{refused_status, refused_memory}
+use Rattle.lsc_cli.proofs.SignatureLines.{refused_status, refused_memory}
 use Rattle.lsc_cli.proofs.check.check_text.Goals as goal
 
 pub returns-in-Ok-clause-judged : goal.returns-in-Ok-clause-judged
 returns-in-Ok-clause-judged g c = λ about.
-    (done (type_lines c.in-Ok.checked.typed.names c.in-Ok.checked.enums c.in-Ok.checked.sigs), Accepted c.in-Ok.checked c.in-Ok.ensures.accepted refl, c.write_checked.ensures.outcome)
+    (done (check_lines c.in-Ok.file), Passed c.in-Ok.file c.in-Ok.ensures.accepted refl, c.write_checked.ensures.outcome)
 
 pub returns-in-Err : goal.returns-in-Err
 returns-in-Err g c =

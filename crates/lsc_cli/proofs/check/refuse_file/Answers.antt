@@ -13,3 +13,9 @@ refuse_scope-requires g c = subst IsInside c.in-Scope.is c.requires.inside
 
 pub refuse_types-requires : goal.refuse_types-requires
 refuse_types-requires g c = subst IsInside c.in-Types.is c.requires.inside
+
+pub refuse_clocks-requires : goal.refuse_clocks-requires
+refuse_clocks-requires g c = subst IsInside c.in-Clocks.is c.requires.inside
+
+pub refuse_init-requires : goal.refuse_init-requires
+refuse_init-requires g c = subst IsInside c.in-Init.is c.requires.inside

@@ -1,4 +1,4 @@
-use Rattle.type_schemes.proofs.Writing.{prints_more}
+use Rattle.text_write.proofs.Writing.{prints_more}
 use Rattle.lsc_cli.proofs.check.write_type.Goals as goal
 
 pub returns : goal.returns

@@ -1,0 +1,1 @@
+let node f x c = (x when c) + x

@@ -1,0 +1,1 @@
+let node g x = pre (pre x)
