@@ -132,16 +132,6 @@ module _ (sigs : List ClockScheme) (cases : ℕ → Option ℕ) (s : Put) where
     acyclic = record { rank = h.acyclic.rank; below = h.acyclic.falls };
   }
 
--- ---- answers
-
-pub none_holds : {A : Type 0} (o : Option A) (P : Type 0) → o ≡ None → IfNone o P → P
-none_holds None P e h = h
-none_holds (Some x) P e h = absurd (cc)
-
-pub some_holds : {A : Type 0} (o : Option A) (x : A) (P : A → Type 0) → o ≡ Some x → IfSome o P → P x
-some_holds None x P e h = absurd (cc)
-some_holds (Some y) x P e h = let same : y ≡ x = cc in subst P same h
-
 -- ---- definitions
 
 module _ (sigs : List ClockScheme) (cases : ℕ → Option ℕ) (params : List Pat) (marks : List Mark) (types : List TypeNote) (tree : BodyOf TypeNote)
