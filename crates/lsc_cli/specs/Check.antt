@@ -2,6 +2,7 @@
 use Rattle.std.specs.Prelude.{◌≡◌, ◌≢◌, ℕ, List, [], ◌∷◌, ◌++◌, Option, ◌⊎◌, codes}
 use Rattle.ls_front.specs.declared.checked.Checked.{Checked}
 use Rattle.clock_text.specs.Texts.{clock_line}
+use Rattle.ls_base.specs.declared.Name.{Name}
 use Rattle.ls_front.specs.Front.{IsAccepted, IsFault}
 use Rattle.ls_front.specs.declared.fault.FrontFault.{FrontFault}
 use Rattle.ls_front.specs.declared.fault.FrontFault.TheVariants as fails
@@ -11,10 +12,10 @@ use Rattle.lsc_cli.specs.declared.status.Status.{Status}
 use Rattle.lsc_cli.specs.Outcome.{Outcome, Comes, done, refusal}
 use Rattle.lsc_cli.specs.Refusals.{clocks_text, init_text, lex_text, scope_text, syntax_fault_text, types_text}
 
-module _ (file : Checked) where
+module _ (names : List (List ℕ)) (enums : List Name) (constructors : List (List Name)) where
   -- the type and the clock of a definition, a line each
   abbrev pub signature_lines : Sig → List ℕ
-  signature_lines s = (type_line file.ann.names file.enums s ++ codes "\n") ++ (clock_line file.ann.names file.constructors s ++ codes "\n")
+  signature_lines s = (type_line names enums s ++ codes "\n") ++ (clock_line names constructors s ++ codes "\n")
 
   abbrev pub all_lines : List Sig → List ℕ
   all_lines [] = []
@@ -22,7 +23,7 @@ module _ (file : Checked) where
 
 -- the types and clocks of the definitions of a file, in order
 abbrev pub check_lines : Checked → List ℕ
-check_lines file = all_lines file file.sigs
+check_lines file = all_lines file.ann.names file.enums file.constructors file.sigs
 
 -- the refusal of the first judgement that fails
 abbrev pub front_text : FrontFault → List ℕ

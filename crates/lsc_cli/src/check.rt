@@ -15,7 +15,7 @@ use crate::refusal::{
 };
 use crate::status::Status;
 use clock_text::print_clock;
-use ls_base::{Sink, write_all};
+use ls_base::{List, Name, Names, Sink, write_all};
 use ls_front::{Checked, FrontFault, front};
 use ls_sig::Sig;
 use std::alloc::Global;
@@ -31,7 +31,7 @@ pub(crate) fn check_text<K: Sink>(alloc: Global, text: &[u8], out: &mut K) -> St
     ensures untouched { result ≡ Status.NoMemory → out.new ≡ out.old }
 {
     match front(alloc, text) {
-        Ok(file) => write_checked(&file, out),
+        Ok(checked) => write_checked(&checked, out),
         Err(FrontFault::NoMemory) => Status::NoMemory,
         Err(fault) => refuse_file(fault, out),
     }
@@ -57,12 +57,15 @@ fn refuse_file<K: Sink>(fault: FrontFault, out: &mut K) -> Status
 }
 
 /// Writes the types and clocks of a file that is accepted.
-fn write_checked<K: Sink>(file: &Checked, out: &mut K) -> Status
-    ensures outcome { Comes (done (check_lines file.now)) result (K.written out.old) (K.written out.new) }
+fn write_checked<K: Sink>(checked: &Checked, out: &mut K) -> Status
+    ensures outcome { Comes (done (check_lines checked.now)) result (K.written out.old) (K.written out.new) }
     ensures status { (result ≡ Status.Done) ⊎ (result ≡ Status.WriteFault) }
     ensures write_fault { result ≡ Status.WriteFault → Rose (K.count out.old) (K.count out.new) }
 {
-    if write_signatures(file, out) {
+    let sigs = checked.sigs.as_slice();
+    let enums = checked.enums.as_slice();
+    let constructors = checked.constructors.as_slice();
+    if write_signatures(sigs, enums, constructors, &checked.ann.names, out) {
         Status::Done
     } else {
         Status::WriteFault
@@ -70,62 +73,86 @@ fn write_checked<K: Sink>(file: &Checked, out: &mut K) -> Status
 }
 
 /// Writes the lines of each signature. Whether no write failed is answered.
-fn write_signatures<K: Sink>(file: &Checked, out: &mut K) -> bool
-    ensures { Prints true result (K.written out.old) (K.written out.new) (K.count out.old) (K.count out.new) (check_lines file.now) }
+fn write_signatures<K: Sink>(
+    sigs: &[Sig],
+    enums: &[Name],
+    constructors: &[List<Name>],
+    names: &Names,
+    out: &mut K,
+) -> bool
+    ensures { Prints true result (K.written out.old) (K.written out.new) (K.count out.old) (K.count out.new) (all_lines names.now enums.now constructors.now sigs.now) }
 {
     let mut fine = true;
-    let sigs = file.sigs.as_slice();
     for sig in sigs {
-        fine = write_signature(fine, file, sig, out);
+        fine = write_signature(fine, sig, enums, constructors, names, out);
     }
     fine
 }
 
 /// Writes the lines of a signature, unless a write failed before.
-fn write_signature<K: Sink>(fine: bool, file: &Checked, sig: &Sig, out: &mut K) -> bool
-    ensures { Prints fine result (K.written out.old) (K.written out.new) (K.count out.old) (K.count out.new) (signature_lines file.now sig.now) }
+fn write_signature<K: Sink>(
+    fine: bool,
+    sig: &Sig,
+    enums: &[Name],
+    constructors: &[List<Name>],
+    names: &Names,
+    out: &mut K,
+) -> bool
+    ensures { Prints fine result (K.written out.old) (K.written out.new) (K.count out.old) (K.count out.new) (signature_lines names.now enums.now constructors.now sig.now) }
 {
-    let typed = write_type(fine, file, sig, out);
-    write_clock(typed, file, sig, out)
+    let typed = write_type(fine, sig, enums, names, out);
+    write_clock(typed, sig, constructors, names, out)
 }
 
 /// Writes the line of a signature's type, unless a write failed before.
-fn write_type<K: Sink>(fine: bool, file: &Checked, sig: &Sig, out: &mut K) -> bool
-    ensures { Prints fine result (K.written out.old) (K.written out.new) (K.count out.old) (K.count out.new) (type_line file.now.ann.names file.now.enums sig.now ++ codes "\n") }
+fn write_type<K: Sink>(fine: bool, sig: &Sig, enums: &[Name], names: &Names, out: &mut K) -> bool
+    ensures { Prints fine result (K.written out.old) (K.written out.new) (K.count out.old) (K.count out.new) (type_line names.now enums.now sig.now ++ codes "\n") }
 {
-    let told = tell_type(fine, file, sig, out);
+    let told = tell_type(fine, sig, enums, names, out);
     end_line(told, out)
 }
 
 /// Writes the line of a signature's clock, unless a write failed before.
-fn write_clock<K: Sink>(fine: bool, file: &Checked, sig: &Sig, out: &mut K) -> bool
-    ensures { Prints fine result (K.written out.old) (K.written out.new) (K.count out.old) (K.count out.new) (clock_line file.now.ann.names file.now.constructors sig.now ++ codes "\n") }
+fn write_clock<K: Sink>(
+    fine: bool,
+    sig: &Sig,
+    constructors: &[List<Name>],
+    names: &Names,
+    out: &mut K,
+) -> bool
+    ensures { Prints fine result (K.written out.old) (K.written out.new) (K.count out.old) (K.count out.new) (clock_line names.now constructors.now sig.now ++ codes "\n") }
 {
-    let told = tell_clock(fine, file, sig, out);
+    let told = tell_clock(fine, sig, constructors, names, out);
     end_line(told, out)
 }
 
 /// Writes the name and the type of a signature, unless a write failed before.
-fn tell_type<K: Sink>(fine: bool, file: &Checked, sig: &Sig, out: &mut K) -> bool
-    ensures { Prints fine result (K.written out.old) (K.written out.new) (K.count out.old) (K.count out.new) (type_line file.now.ann.names file.now.enums sig.now) }
+fn tell_type<K: Sink>(fine: bool, sig: &Sig, enums: &[Name], names: &Names, out: &mut K) -> bool
+    ensures { Prints fine result (K.written out.old) (K.written out.new) (K.count out.old) (K.count out.new) (type_line names.now enums.now sig.now) }
 {
     if !fine {
         return false;
     }
-    match print_type(sig, file.enums.as_slice(), &file.ann.names, out) {
+    match print_type(sig, enums, names, out) {
         Ok(()) => true,
         Err(_) => false,
     }
 }
 
 /// Writes the name and the clock of a signature, unless a write failed before.
-fn tell_clock<K: Sink>(fine: bool, file: &Checked, sig: &Sig, out: &mut K) -> bool
-    ensures { Prints fine result (K.written out.old) (K.written out.new) (K.count out.old) (K.count out.new) (clock_line file.now.ann.names file.now.constructors sig.now) }
+fn tell_clock<K: Sink>(
+    fine: bool,
+    sig: &Sig,
+    constructors: &[List<Name>],
+    names: &Names,
+    out: &mut K,
+) -> bool
+    ensures { Prints fine result (K.written out.old) (K.written out.new) (K.count out.old) (K.count out.new) (clock_line names.now constructors.now sig.now) }
 {
     if !fine {
         return false;
     }
-    match print_clock(sig, file.constructors.as_slice(), &file.ann.names, out) {
+    match print_clock(sig, constructors, names, out) {
         Ok(()) => true,
         Err(_) => false,
     }

@@ -7,7 +7,7 @@ use Rattle.lsc_cli.proofs.check.check_text.Goals as goal
 
 pub returns-in-Ok-clause-judged : goal.returns-in-Ok-clause-judged
 returns-in-Ok-clause-judged g c = λ about.
-    (done (check_lines c.in-Ok.file), Passed c.in-Ok.file c.in-Ok.ensures.accepted refl, c.write_checked.ensures.outcome)
+    (done (check_lines c.in-Ok.checked), Passed c.in-Ok.checked c.in-Ok.ensures.accepted refl, c.write_checked.ensures.outcome)
 
 pub returns-in-Err : goal.returns-in-Err
 returns-in-Err g c =
