@@ -1,0 +1,6 @@
+//! Whether the definitions of a file are causal.
+#![tactic(auto)]
+
+mod graph;
+mod nodes;
+mod reads;
