@@ -11,6 +11,7 @@ use Rattle.type_infer.specs.Inference.{NoneObeys}
 use Rattle.type_rules.specs.Definitions.{Definition}
 use Rattle.type_rules.specs.Files.{LetOf, Judged, Typed, lets, in_place}
 use Rattle.type_rules.specs.Laws.{AreFunctionsIn, annotated_let}
+pub use Rattle.type_rules.specs.Laws.{AreFunctionsAll}
 
 -- an annotated definition as one of a file
 abbrev pub definition_of : LetOf TypeNote → DefOf TypeNote
@@ -30,12 +31,6 @@ module _ (case_type : ℕ → Option TypeTerm) (limit : ℕ) (sigs : List Sig) w
   IsIll (d.Cases line name cases) at' = ⊥
   IsIll (d.Let line node name params marks notes body) at' =
       (line ≡ at') × NoneObeys case_type limit sigs (record { params = params; marks = marks; notes = notes; body = body })
-
-  -- in each definition, after those before it, a parameter that is marked as a function is one in each annotation
-  abbrev pub AreFunctionsAll : List (LetOf Use) → Type 0
-  AreFunctionsAll ds =
-      (before : List (LetOf Use)) (def : LetOf Use) (after : List (LetOf Use)) (as' : List (LetOf TypeNote)) (ss : List Sig)
-      → ds ≡ before ++ def ∷ after → Judged case_type limit sigs before as' ss → AreFunctionsIn case_type (sigs ++ ss) def.def
 
   -- the definitions are judged, and these are they with their types
   abbrev pub AreTyped : List (DefOf Use) → List (DefOf TypeNote) → Type 0

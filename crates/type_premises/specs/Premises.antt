@@ -1,5 +1,5 @@
 -- What the judgement on types supposes of a file, and what its scope gives.
-use Rattle.std.specs.Prelude.{◌≡◌, ℕ, true, false, List, [], ◌∷◌, ◌++◌, Option}
+use Rattle.std.specs.Prelude.{◌≡◌, ℕ, true, false, List, [], ◌∷◌, Option}
 use Rattle.ls_ast.specs.declared.tree.FileOf.{FileOf}
 use Rattle.ls_ast.specs.declared.tree.Mark.{Mark}
 use Rattle.ls_ast.specs.declared.tree.Plain.{Plain}
@@ -12,7 +12,7 @@ use Rattle.tree_notes.specs.Each.{Each}
 use Rattle.type_rules.specs.Schemes.{is_data}
 use Rattle.type_rules.specs.Expressions.{is_functional}
 use Rattle.type_rules.specs.Files.{LetOf, Judged, lets}
-use Rattle.type_rules.specs.Laws.{AreFunctionsIn}
+pub use Rattle.type_rules.specs.Laws.{AreFunctionsAll}
 use Rattle.scope_rules.specs.After.{resolved}
 
 -- at each mark of a function there is a type, which is no type of data
@@ -24,13 +24,6 @@ FunctionTypes (m ∷ ms) (t ∷ ts) = (is_functional m ≡ true → is_data t �
 -- a parameter that is marked as a function is one
 abbrev pub FunctionParams : Sig → Type 0
 FunctionParams s = FunctionTypes s.marks s.params
-
-module _ (case_type : ℕ → Option TypeTerm) (limit : ℕ) (sigs : List Sig) where
-  -- in each definition, after those before it, a parameter that is marked as a function is one in each annotation
-  abbrev pub AreFunctionsAll : List (LetOf Use) → Type 0
-  AreFunctionsAll ds =
-      (before : List (LetOf Use)) (def : LetOf Use) (after : List (LetOf Use)) (as' : List (LetOf TypeNote)) (ss : List Sig)
-      → ds ≡ before ++ def ∷ after → Judged case_type limit sigs before as' ss → AreFunctionsIn case_type (sigs ++ ss) def.def
 
 -- the definitions of a file with its binders and marks
 abbrev pub definitions : Env → FileOf Plain → List (LetOf Use)

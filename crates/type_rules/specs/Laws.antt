@@ -48,6 +48,12 @@ asks_in case_type sigs d = asks_of sigs case_type (variables sigs case_type d) (
 abbrev pub AreFunctionsIn : (ℕ → Option TypeTerm) → List Sig → Definition Use → Type 0
 AreFunctionsIn case_type sigs d = AreFunctions sigs case_type (variables sigs case_type d) (placed case_type sigs d)
 
+-- in each definition, after those before it, a parameter that is marked as a function is one in each annotation
+abbrev pub AreFunctionsAll : (ℕ → Option TypeTerm) → ℕ → List Sig → List (LetOf Use) → Type 0
+AreFunctionsAll case_type limit sigs ds =
+    (before : List (LetOf Use)) (def : LetOf Use) (after : List (LetOf Use)) (as' : List (LetOf TypeNote)) (ss : List Sig)
+    → ds ≡ before ++ def ∷ after → Judged case_type limit sigs before as' ss → AreFunctionsIn case_type (sigs ++ ss) def.def
+
 -- a most general unifier within the limit whose own variables stand for data gives a principal annotation within it
 abbrev pub TypedByUnifier : Type 0
 TypedByUnifier =

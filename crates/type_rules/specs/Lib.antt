@@ -1,5 +1,6 @@
 pub mod Annotations
 pub mod Bodies
+pub mod Constructors
 pub mod Definitions
 pub mod Demands
 pub mod Expressions
