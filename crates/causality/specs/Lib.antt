@@ -1,3 +1,4 @@
+pub mod Cycles
+pub mod Items
 pub mod Nodes
-pub mod Walks
 pub mod Rows

@@ -1,38 +1,123 @@
--- The rows of the graph of a body's reads, as they are pushed.
-use Rattle.std.specs.Prelude.{◌≡◌, ℕ, ◌+◌, ◌-◌, List, [], ◌∷◌, ◌++◌, length, map, Option, Some, None}
-use Rattle.ls_places.specs.Clocks.{bare}
-use Rattle.ls_places.specs.Places.{Place, arms}
-use Rattle.ls_places.specs.Search.{signal_at, whole_of}
+-- What each node of the graph reads. A row reads other rows, and the nodes of the whole expressions that it is computed from,
+-- so that a pattern of n names costs n and the size of its expression.
+use Rattle.std.specs.Prelude.{ℕ, ◌+◌, ◌-◌, List, [], ◌∷◌, ◌++◌, map, length, nat_lt, Option, Some, None, if◌then◌else◌}
+use Rattle.ls_places.specs.Patterns.{joined}
+use Rattle.ls_places.specs.Places.{Place}
+use Rattle.ls_places.specs.Search.{nth, sites_of, start_of}
 use Rattle.ls_places.specs.declared.definition.Definition.{Definition}
 use Rattle.ls_places.specs.declared.definition.Key.{Key}
+use Rattle.ls_places.specs.declared.definition.Key.TheVariants as key
+use Rattle.ls_places.specs.declared.places.Named.{Named}
 use Rattle.ls_places.specs.declared.places.Named.TheVariants as named
+use Rattle.ls_places.specs.declared.places.Right.{Right}
+use Rattle.ls_places.specs.declared.places.Right.TheVariants as rhs
 use Rattle.ls_places.specs.declared.places.Site.{Site}
+use Rattle.ls_places.specs.declared.places.Start.{Start}
 use Rattle.ls_places.specs.declared.places.Transition.{Transition}
-use Rattle.causality_rules.specs.Reads.{clock_rows}
-use Rattle.causality.specs.Nodes.{block_row, counts, total}
+use Rattle.ls_places.specs.declared.places.Variable.{Variable}
+use Rattle.causality_rules.specs.Reads.{missing_rows, mode_rows, place_rows, present_clock, reset_rows, signal_rows, whole_rows}
+use Rattle.causality.specs.Nodes.{all_nodes, counts, key_node, whole_node}
+use Rattle.causality.specs.declared.nodes.Node.{Node}
+use Rattle.causality.specs.declared.nodes.Node.TheVariants as node
 
--- the signal that is seen at a place
-abbrev pub signal_in : Definition → Place → ℕ → Option ℕ
-signal_in d p x = signal_at d x (arms p)
+module _ (d : Definition) where
+  -- ---- the rows that a row reads but for its whole expressions
 
-abbrev pub whole_clock : Definition → Site → ℕ → List Key
-whole_clock d s k = clock_rows d (bare (length s.inner) (whole_of d k).expr.note.ck)
+  abbrev pub right_keys : Place → Right → List Key
+  right_keys p (rhs.Part pat k) = []
+  right_keys p (rhs.Whole k) = []
+  right_keys p (rhs.Pattern y pat) = signal_rows d p y
 
-abbrev pub present_row : Definition → List ℕ → Place → List ℕ
-present_row d xs p = block_row d 0 (Some (named.Present xs p))
+  abbrev pub site_keys : Site → List Key
+  site_keys s = place_rows s.place ++ right_keys s.place s.right
 
-abbrev pub active_row : Definition → ℕ → List (ℕ × List Transition) → Place → List ℕ
-active_row d m states p = block_row d m (Some (named.Active states p))
+  abbrev pub sites_keys : List Site → List Key
+  sites_keys all = joined (map site_keys all)
 
-abbrev pub tested_row : Definition → ℕ → Place → List ℕ
-tested_row d m p = block_row d m (Some (named.Tested [] p))
+  abbrev pub variable_keys : ℕ → Option Variable → List Key
+  variable_keys x None = []
+  variable_keys x (Some w) = (place_rows w.place ++ missing_rows d x w) ++ sites_keys (sites_of x d.places.sites)
 
--- rows that are made so far: the number of nodes, and the rows
-abbrev pub Made : Type 0
-Made = ℕ × List (List ℕ)
+  abbrev pub started_keys : Place → Option Start → List Key
+  started_keys p None = []
+  started_keys p (Some s) = reset_rows p
 
-abbrev pub AreNodes : Made → Definition → Type 0
-AreNodes rows d = rows.0 ≡ total (counts d)
+  abbrev pub initial_keys : Option Variable → List Key
+  initial_keys None = []
+  initial_keys (Some w) = started_keys w.place (start_of w d.places.starts)
 
-abbrev pub AddsRows : Made → List (List ℕ) → Made → Type 0
-AddsRows old more new = new.1 ≡ old.1 ++ more
+  abbrev pub block_keys : ℕ → Option Named → List Key
+  block_keys m None = []
+  block_keys m (Some (named.Clock x)) = []
+  block_keys m (Some (named.Match k all p)) = place_rows p
+  block_keys m (Some (named.Present xs p)) = place_rows p ++ (present_clock d xs p ++ joined (map (signal_rows d p) xs))
+  block_keys m (Some (named.Active states p)) = key.Name (m + 1) ∷ (place_rows p ++ mode_rows d m p)
+  block_keys m (Some (named.Tested states p)) = place_rows p ++ mode_rows d (m - 1) p
+
+  abbrev pub keys : Key → List Key
+  keys (key.Var x) = variable_keys x (nth d.places.vars x)
+  keys (key.Start x) = initial_keys (nth d.places.vars x)
+  keys (key.Name m) = if nat_lt m (length d.params) then [] else block_keys m (nth d.places.names (m - length d.params))
+  keys (key.Reset r) = []
+
+  -- ---- its whole expressions
+
+  abbrev pub right_wholes : Right → List ℕ
+  right_wholes (rhs.Part pat k) = k ∷ []
+  right_wholes (rhs.Whole k) = k ∷ []
+  right_wholes (rhs.Pattern y pat) = []
+
+  abbrev pub site_wholes : Site → List ℕ
+  site_wholes s = right_wholes s.right
+
+  abbrev pub sites_wholes : List Site → List ℕ
+  sites_wholes all = joined (map site_wholes all)
+
+  abbrev pub variable_wholes : ℕ → Option Variable → List ℕ
+  variable_wholes x None = []
+  variable_wholes x (Some w) = sites_wholes (sites_of x d.places.sites)
+
+  abbrev pub started_wholes : Option Start → List ℕ
+  started_wholes None = []
+  started_wholes (Some s) = s.right ∷ []
+
+  abbrev pub initial_wholes : Option Variable → List ℕ
+  initial_wholes None = []
+  initial_wholes (Some w) = started_wholes (start_of w d.places.starts)
+
+  abbrev pub guard_wholes : List Transition → List ℕ
+  guard_wholes = map {A = Transition} {B = ℕ} (λ g. g.cond)
+
+  abbrev pub state_wholes : List (ℕ × List Transition) → List ℕ
+  state_wholes all = joined (map (λ (s : ℕ × List Transition). guard_wholes s.1) all)
+
+  abbrev pub block_wholes : Option Named → List ℕ
+  block_wholes (Some (named.Match k all p)) = k ∷ []
+  block_wholes (Some (named.Active states p)) = state_wholes states
+  block_wholes _ = []
+
+  abbrev pub condition_wholes : Option ℕ → List ℕ
+  condition_wholes None = []
+  condition_wholes (Some k) = k ∷ []
+
+  abbrev pub wholes : Key → List ℕ
+  wholes (key.Var x) = variable_wholes x (nth d.places.vars x)
+  wholes (key.Start x) = initial_wholes (nth d.places.vars x)
+  wholes (key.Name m) = if nat_lt m (length d.params) then [] else block_wholes (nth d.places.names (m - length d.params))
+  wholes (key.Reset r) = condition_wholes (nth d.places.resets r)
+
+  -- ---- the graph
+
+  abbrev pub key_nodes : List Key → List ℕ
+  key_nodes = map {A = Key} {B = ℕ} (key_node (counts d))
+
+  abbrev pub whole_nodes : List ℕ → List ℕ
+  whole_nodes = map {A = ℕ} {B = ℕ} (whole_node (counts d))
+
+  abbrev pub node_row : Node → List ℕ
+  node_row node.Nothing = []
+  node_row (node.Row k) = key_nodes (keys k) ++ whole_nodes (wholes k)
+  node_row (node.Whole k) = key_nodes (whole_rows d k)
+
+  abbrev pub rows : List (List ℕ)
+  rows = map node_row (all_nodes (counts d))

@@ -1,0 +1,6 @@
+pub mod Blocks
+pub mod Known
+pub mod Lists
+pub mod Split
+pub mod Waiting
+pub mod Ways
