@@ -70,6 +70,27 @@ scheme marks notes ck = record {
 abbrev pub scheme_of : Sig → ClockScheme
 scheme_of s = record { clocks = s.clocks; result = s.result_clock; names = s.clock_names }
 
+-- a signature with a clock scheme
+abbrev pub with_scheme : Sig → ClockScheme → Sig
+with_scheme s c = record {
+  name = s.name;
+  kind = s.kind;
+  marks = s.marks;
+  params = s.params;
+  result = s.result;
+  clocks = c.clocks;
+  result_clock = c.result;
+  clock_names = c.names;
+}
+
+-- the signatures of definitions in order, with the clock schemes of their annotations
+abbrev pub with_schemes : List Sig → List (DefOf Note) → List Sig
+with_schemes sigs [] = []
+with_schemes sigs (item.Cases line name all ∷ rest) = with_schemes sigs rest
+with_schemes [] (item.Let line node name params marks notes body ∷ rest) = []
+with_schemes (s ∷ sigs) (item.Let line node name params marks notes body ∷ rest) =
+    with_scheme s (scheme marks notes body.result.note.ck) ∷ with_schemes sigs rest
+
 -- ---- files, by the schemes of earlier definitions
 
 module _ (cases : ℕ → Option ℕ) where

@@ -8,8 +8,7 @@ use Rattle.ls_places.specs.Definitions.{definition_of}
 use Rattle.ls_places.specs.declared.definition.Definition.{Definition}
 use Rattle.ls_sig.specs.declared.binder.Note.{Note}
 use Rattle.ls_sig.specs.declared.sigs.InitSig.{InitSig}
-use Rattle.init_rules.specs.Files.{Let, data_marks, is_data}
-use Rattle.init_rules.specs.Files as files
+use Rattle.init_rules.specs.Files.{data_marks, is_data}
 use Rattle.init_rules.specs.Init.{Initialised, IsSignature}
 use Rattle.init_check.specs.declared.file.InitFault.{InitFault}
 use Rattle.init_check.specs.declared.file.InitFault.TheVariants as fault
@@ -23,25 +22,18 @@ abbrev pub is_known_data : Option Mark → Bool
 is_known_data None = false
 is_known_data (Some m) = is_data m
 
--- constructors have no places here, since what stands in a body is judged whichever they have
-abbrev pub no_cases : ℕ → Option ℕ
-no_cases x = None
+module _ (cases : ℕ → Option ℕ) where
+  -- an item of a file: a `let` has a signature
+  abbrev pub ItemJudged : List InitSig → DefOf Note → Option InitSig → Type 0
+  ItemJudged sigs (item.Cases line name all) o = o ≡ None
+  ItemJudged sigs (item.Let line node name params marks notes body) o =
+      let d = definition_of cases params notes body in
+      (s : InitSig) × (o ≡ Some s) × Initialised d sigs × IsSignature d sigs (data_marks params marks) s
 
--- the `let` definitions of a file, with what stands where in them
-abbrev pub lets : List (DefOf Note) → List Let
-lets = files.lets no_cases
-
--- an item of a file: a `let` has a signature
-abbrev pub ItemJudged : List InitSig → DefOf Note → Option InitSig → Type 0
-ItemJudged sigs (item.Cases line name all) o = o ≡ None
-ItemJudged sigs (item.Let line node name params marks notes body) o =
-    let d = definition_of no_cases params notes body in
-    (s : InitSig) × (o ≡ Some s) × Initialised d sigs × IsSignature d sigs (data_marks params marks) s
-
--- a `let` at this line that is not initialised
-abbrev pub ItemFails : List InitSig → DefOf Note → Line → Type 0
-ItemFails sigs (item.Cases line name all) at = ⊥
-ItemFails sigs (item.Let line node name params marks notes body) at = (line ≡ at) × (Initialised (definition_of no_cases params notes body) sigs → ⊥)
+  -- a `let` at this line that is not initialised
+  abbrev pub ItemFails : List InitSig → DefOf Note → Line → Type 0
+  ItemFails sigs (item.Cases line name all) at = ⊥
+  ItemFails sigs (item.Let line node name params marks notes body) at = (line ≡ at) × (Initialised (definition_of cases params notes body) sigs → ⊥)
 
 -- of a fault that is at a line
 abbrev pub AtLine : InitFault → (Line → Type 0) → Type 0

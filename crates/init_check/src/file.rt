@@ -2,16 +2,19 @@
 
 ghost use Rattle.std.specs.Prelude.{◌≡◌, ◌++◌, [], OnOk, IfOk, IfErr};
 ghost use Rattle.std.specs.Option.{option_copied};
+ghost use Rattle.case_tables.specs.Cases.{place};
 ghost use Rattle.init_check.specs.Judged as own;
 ghost use Rattle.init_rules.specs.Files as spec;
 ghost use Rattle.ls_places.specs.Definitions as definitions;
+ghost use Rattle.ls_places.specs.Definitions.{case_place};
 ghost use Rattle.ls_places.specs.Places.{option_list};
 
 use crate::judge::decide;
 use crate::nodes::total_nodes;
+use case_tables::Cases;
 use ls_ast::{BodyOf, DefOf, Mark, Pat};
 use ls_base::{Line, List, NoMemory, NoteCopy};
-use ls_places::{CasePlaces, Definition, NoteSignals, find};
+use ls_places::{Definition, NoteSignals, find};
 use ls_sig::{Ann, Env, InitSig, InitSigs, Note};
 use ls_terms::ClockTerm;
 use place_tables::{Tables, nth};
@@ -40,19 +43,6 @@ impl From<NoMemory> for InitFault {
     }
 }
 
-// The places of constructors do not matter here.
-struct NoCases;
-
-impl CasePlaces for NoCases {
-    ghost use Rattle.std.specs.Prelude.{None};
-
-    ghost place = { λ it name. None };
-
-    fn place(&self, _name: u32) -> Option<u32> {
-        None
-    }
-}
-
 // The greatest number of nodes of a graph.
 const MOST: u64 = 4_294_967_295;
 
@@ -68,13 +58,14 @@ fn note_clocks(alloc: Global, notes: &[Note]) -> Result<List<ClockTerm>, NoMemor
 
 fn tables(
     alloc: Global,
+    cases: &Cases,
     params: &List<Pat>,
     notes: &[Note],
     body: &BodyOf<Note>,
 ) -> Result<Tables, NoMemory>
-    ensures { IfOk result (λ r. r ≡ definitions.definition_of own.no_cases params.now notes.now body.now) }
+    ensures { IfOk result (λ r. r ≡ definitions.definition_of (place cases.now) params.now notes.now body.now) }
 {
-    let places = find(alloc, params.len() as u32, &NoCases, &NoteSignals, body)?;
+    let places = find(alloc, params.len() as u32, cases, &NoteSignals, body)?;
     let def = Definition {
         params: params.copy(alloc)?,
         clocks: note_clocks(alloc, notes)?,
@@ -106,15 +97,16 @@ fn data_marks(alloc: Global, params: &[Pat], marks: &[Mark]) -> Result<List<bool
 
 fn judge_let(
     alloc: Global,
+    cases: &Cases,
     sigs: &[InitSig],
     params: &List<Pat>,
     marks: &[Mark],
     notes: &[Note],
     body: &BodyOf<Note>,
 ) -> Result<Option<InitSig>, NoMemory>
-    ensures { IfOk result (own.Decided (definitions.definition_of own.no_cases params.now notes.now body.now) sigs.now (spec.data_marks params.now marks.now)) }
+    ensures { IfOk result (own.Decided (definitions.definition_of (place cases.now) params.now notes.now body.now) sigs.now (spec.data_marks params.now marks.now)) }
 {
-    let d = tables(alloc, params, notes, body)?;
+    let d = tables(alloc, cases, params, notes, body)?;
     if total_nodes(d.definition()) > MOST {
         return Err(NoMemory);
     }
@@ -125,11 +117,12 @@ fn judge_let(
 // The signature of an item, where it is a `let`.
 fn judge_item(
     alloc: Global,
+    cases: &Cases,
     sigs: &[InitSig],
     item: &DefOf<Note>,
 ) -> Result<Option<InitSig>, InitFault>
-    ensures judged { IfOk result (own.ItemJudged sigs.now item.now) }
-    ensures fault { IfErr result (λ f. own.AtLine f (own.ItemFails sigs.now item.now)) }
+    ensures judged { IfOk result (own.ItemJudged (place cases.now) sigs.now item.now) }
+    ensures fault { IfErr result (λ f. own.AtLine f (own.ItemFails (place cases.now) sigs.now item.now)) }
 {
     match item {
         DefOf::Cases { .. } => Ok(None),
@@ -142,6 +135,7 @@ fn judge_item(
             ..
         } => match judge_let(
             alloc,
+            cases,
             sigs,
             params,
             marks.as_slice(),
@@ -175,16 +169,17 @@ fn add_signature(
 
 fn judge_all(
     alloc: Global,
+    cases: &Cases,
     before: &List<InitSig>,
     items: &[DefOf<Note>],
 ) -> Result<List<InitSig>, InitFault>
-    ensures judged { IfOk result (λ ss. spec.Judged before.now (own.lets items.now) ss) }
-    ensures fault { IfErr result (λ f. own.AtLine f (spec.Uninitialised before.now (own.lets items.now))) }
+    ensures judged { IfOk result (λ ss. spec.Judged before.now (spec.lets (place cases.now) items.now) ss) }
+    ensures fault { IfErr result (λ f. own.AtLine f (spec.Uninitialised before.now (spec.lets (place cases.now) items.now))) }
 {
     let mut sigs = before.copy(alloc)?;
     let mut done = List::new(alloc);
     for item in items {
-        match judge_item(alloc, sigs.as_slice(), item) {
+        match judge_item(alloc, cases, sigs.as_slice(), item) {
             Err(fault) => return Err(fault),
             Ok(sig) => add_signature(alloc, sig, &mut done, &mut sigs)?,
         }
@@ -198,20 +193,22 @@ fn judge_all(
 /// The answer is Ok exactly where each definition is initialised, by the signatures of those
 /// before it, and else the first that is not; or NoMemory, where a block of memory was refused.
 pub fn check_init_after(alloc: Global, env: &Env, file: &Ann) -> Result<InitSigs, InitFault>
-    ensures judged { IfOk result (λ r. spec.Judged env.now.inits.list (own.lets file.now.defs) r.list) }
-    ensures fault { IfErr result (λ f. own.AtLine f (spec.Uninitialised env.now.inits.list (own.lets file.now.defs))) }
+    ensures judged { IfOk result (λ r. spec.Judged env.now.inits.list (spec.lets (case_place file.now.defs) file.now.defs) r.list) }
+    ensures fault { IfErr result (λ f. own.AtLine f (spec.Uninitialised env.now.inits.list (spec.lets (case_place file.now.defs) file.now.defs))) }
 {
-    let list = judge_all(alloc, &env.inits.list, file.defs.as_slice())?;
+    let cases = Cases::new(alloc, file.defs.as_slice())?;
+    let list = judge_all(alloc, &cases, &env.inits.list, file.defs.as_slice())?;
     Ok(InitSigs { list })
 }
 
 /// The initialisation signatures of the definitions of a file: `check_init_after` the environment
 /// of nothing.
 pub fn check_init(alloc: Global, file: &Ann) -> Result<InitSigs, InitFault>
-    ensures judged { IfOk result (λ r. spec.Judged [] (own.lets file.now.defs) r.list) }
-    ensures fault { IfErr result (λ f. own.AtLine f (spec.Uninitialised [] (own.lets file.now.defs))) }
+    ensures judged { IfOk result (λ r. spec.Judged [] (spec.lets (case_place file.now.defs) file.now.defs) r.list) }
+    ensures fault { IfErr result (λ f. own.AtLine f (spec.Uninitialised [] (spec.lets (case_place file.now.defs) file.now.defs))) }
 {
     let none = List::new(alloc);
-    let list = judge_all(alloc, &none, file.defs.as_slice())?;
+    let cases = Cases::new(alloc, file.defs.as_slice())?;
+    let list = judge_all(alloc, &cases, &none, file.defs.as_slice())?;
     Ok(InitSigs { list })
 }

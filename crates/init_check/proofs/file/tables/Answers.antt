@@ -10,7 +10,7 @@ use Rattle.ls_places.specs.declared.definition.Definition.{Definition}
 use Rattle.ls_places.specs.declared.places.Places.{Places}
 use Rattle.std.proofs.Common.{◌∙◌, ap, subst}
 use Rattle.ls_places.specs.Definitions.{definition_of, note_clocks}
-use Rattle.init_check.specs.Judged.{no_cases}
+use Rattle.case_tables.specs.Cases.{place}
 use Rattle.init_check.proofs.file.tables.Goals as goal
 
 abbrev made_of : List Pat → List ClockTerm → Expr Note → Places Note → Definition
@@ -26,5 +26,5 @@ made cases params copied notes clocks body result places n p k r len f =
 pub returns : goal.returns
 returns c =
     subst (λ (z : Definition). IfOk c.new.result (λ r. r ≡ z))
-    (made no_cases c.args.params.now c.in_ok-copy.field-0 c.args.notes.now c.in_ok-note_clocks.field-0 c.args.body.now c.in_ok-copy-2.field-0 c.in_ok-places.places _
+    (made (place c.args.cases.now) c.args.params.now c.in_ok-copy.field-0 c.args.notes.now c.in_ok-note_clocks.field-0 c.args.body.now c.in_ok-copy-2.field-0 c.in_ok-places.places _
     c.in_ok-copy.ensures c.in_ok-note_clocks.ensures c.in_ok-copy-2.ensures c.len.ensures.value c.in_ok-places.ensures.found) c.new.ensures
