@@ -1,4 +1,5 @@
 pub mod Blocks
+pub mod Conditions
 pub mod Known
 pub mod Lists
 pub mod Split

@@ -1,5 +1,5 @@
 -- What a cycle of nodes tells: rows, and items that wait for one another.
-use Rattle.std.specs.Prelude.{ℕ, suc, ◌||◌, Bool, true, false, List, [], ◌∷◌, ◌++◌, map, slice_set, Option, Some, None, if◌then◌else◌}
+use Rattle.std.specs.Prelude.{ℕ, zero, suc, ◌||◌, Bool, true, false, List, [], ◌∷◌, ◌++◌, length, nat_lt, slice_set, Option, Some, None, if◌then◌else◌}
 use Rattle.digraph.specs.Marks.{marked}
 use Rattle.ls_places.specs.Places.{Place}
 use Rattle.ls_places.specs.declared.definition.Definition.{Definition}
@@ -28,10 +28,18 @@ cycle_rows d (x ∷ xs) = row_of (node_at (counts d) x) ++ cycle_rows d xs
 
 -- ---- where all rows of a cycle are conditions of resets
 
+-- no mark
+abbrev pub blank : ℕ → List Bool
+blank zero = []
+blank (suc n) = false ∷ blank n
+
+abbrev pub mark : List Bool → ℕ → List Bool
+mark marks r = if nat_lt r (length marks) then slice_set marks r true else marks
+
 -- marks on the resets with these conditions
 abbrev pub marks_with : List Bool → List Key → List Bool
 marks_with marks [] = marks
-marks_with marks (key.Reset r ∷ ks) = marks_with (slice_set marks r true) ks
+marks_with marks (key.Reset r ∷ ks) = marks_with (mark marks r) ks
 marks_with marks (_ ∷ ks) = marks_with marks ks
 
 -- whether one of them is around a place

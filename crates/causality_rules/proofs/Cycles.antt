@@ -236,7 +236,7 @@ module _ (d : Definition) where
     self q m w (inl e) = subst (λ k. W (key.Reset k) (key.Reset m)) (sym e) w
     self q m w (inr v) = join (key.Reset m) (key.Reset q) (key.Reset m) refl v w
 
-    var_reads : (q x : ℕ) (w : Variable) → nth d.places.vars x ≡ Some w → In (key.Reset q) (reset_rows w.place) → In (key.Reset q) (reads d (key.Var x))
+    pub var_reads : (q x : ℕ) (w : Variable) → nth d.places.vars x ≡ Some w → In (key.Reset q) (reset_rows w.place) → In (key.Reset q) (reads d (key.Var x))
     var_reads q x w e h = subst (λ o. In (key.Reset q) (Causal.variable_rows d x o)) (sym e)
         (in_left (key.Reset q) (place_rows w.place) (Causal.missing_rows d x w ++ Causal.sites_rows d (sites_of x d.places.sites)) (reset_place q w.place h))
 
