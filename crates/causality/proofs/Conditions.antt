@@ -17,7 +17,7 @@ use Rattle.causality_rules.specs.Reads.{condition_rows, reads, reset_rows}
 use Rattle.causality_rules.specs.Items.{Cyclic, is_condition}
 use Rattle.causality_rules.specs.Laws.{ResetsNested}
 use Rattle.causality_rules.proofs.Cycles.{Found, edge, var_reads}
-use Rattle.causality.specs.Cycles.{blank, first_marked, holds_marked, mark, marks_with, others}
+use Rattle.causality.specs.Cycles.{blank, first_marked, holds_marked, mark, marks_of, marks_with, others}
 use Rattle.causality.proofs.Waiting.{all_between, turned, within_itself}
 
 -- ---- marks
@@ -207,23 +207,20 @@ module _ (d : Definition) (nested : ResetsNested d) where
   in_range [] q l h = absurd l
   in_range (x ∷ xs) q l h = let t = turned (reads d) x xs (key.Reset q) l h in reads_there q t.0 (key.Reset q) t.1
 
-  abbrev marks_of : List Key → List Bool
-  marks_of c = marks_with (blank (length d.places.resets)) c
-
   -- one is found
-  pub some_inside : (c : List Key) → Cycle (reads d) c → others is_condition c ≡ [] → first_marked (marks_of c) d.places.vars 0 ≡ None → ⊥
+  pub some_inside : (c : List Key) → Cycle (reads d) c → others is_condition c ≡ [] → first_marked (marks_of d c) d.places.vars 0 ≡ None → ⊥
   some_inside c l h e =
       let s = held_in c l h in
       let long = blank_long (length d.places.resets) in
       let m = is_marked (blank (length d.places.resets)) c s.0 s.2 (subst (λ z. s.0 < z) (sym long) (in_range c s.0 l s.2)) in
-      none_at (marks_of c) d.places.vars 0 e s.1.0 s.1.1 s.1.2 (holds (marks_of c) s.1.1.place s.0 s.1.3 m)
+      none_at (marks_of d c) d.places.vars 0 e s.1.0 s.1.1 s.1.2 (holds (marks_of d c) s.1.1.place s.0 s.1.3 m)
 
   -- and waits for itself
-  pub waits_inside : (c : List Key) (x : ℕ) → Cycle (reads d) c → others is_condition c ≡ [] → first_marked (marks_of c) d.places.vars 0 ≡ Some x
+  pub waits_inside : (c : List Key) (x : ℕ) → Cycle (reads d) c → others is_condition c ≡ [] → first_marked (marks_of d c) d.places.vars 0 ≡ Some x
       → (x < length d.places.vars) × Cyclic d (key.Var x ∷ [])
   waits_inside c x l h e =
-      let f = first_at (marks_of c) d.places.vars 0 x e in
-      let q = held (marks_of c) f.1.place f.4 in
+      let f = first_at (marks_of d c) d.places.vars 0 x e in
+      let q = held (marks_of d c) f.1.place f.4 in
       let i : In (key.Reset q.0) c = elim (marks_only (blank (length d.places.resets)) c q.0 q.2) [ inl a ↦ absurd (none_marked (length d.places.resets) (blank (length d.places.resets)) refl q.0 a) | inr b ↦ b ] in
       let same : x ≡ f.0 = (let s = f.2 in omega (arith, s)) in
       let at = subst (λ z. nth d.places.vars z ≡ Some f.1) (sym same) f.3 in (

@@ -1,7 +1,9 @@
-pub mod Blocks
 pub mod Conditions
+pub mod ItemRows
 pub mod Known
+pub mod LetsJudged
 pub mod Lists
 pub mod Split
+pub mod Tabled
 pub mod Waiting
 pub mod Ways

@@ -73,7 +73,7 @@ module _ (d : Definition) where
 
   -- ---- the rows
 
-  right_parts : (p : Place) (r : Right) → Parts (reads.right_rows d p r) (own.right_keys d p r) (own.right_wholes d r)
+  right_parts : (p : Place) (r : Right) → Parts (reads.right_rows d p r) (own.right_keys d p r) (own.right_wholes r)
   right_parts p (rhs.Part pat k) = of_whole k
   right_parts p (rhs.Whole k) = of_whole k
   right_parts p (rhs.Pattern y pat) = of_keys (signal_rows d p y)
@@ -90,15 +90,15 @@ module _ (d : Definition) where
     ],
   )
 
-  sites_parts : (all : List Site) → Parts (reads.sites_rows d all) (own.sites_keys d all) (own.sites_wholes d all)
+  sites_parts : (all : List Site) → Parts (reads.sites_rows d all) (own.sites_keys d all) (own.sites_wholes all)
   sites_parts [] = of_keys []
   sites_parts (s ∷ all) =
       let ps = place_rows s.place in
       let rk = own.right_keys d s.place s.right in
       let rest = own.sites_keys d all in
-      regrouped (reads.sites_rows d (s ∷ all)) (ps ++ (rk ++ rest)) ((ps ++ rk) ++ rest) (own.sites_wholes d (s ∷ all)) (assoc ps rk rest)
-      (after_keys ps (reads.right_rows d s.place s.right ++ reads.sites_rows d all) (rk ++ rest) (own.sites_wholes d (s ∷ all))
-      (of_both (reads.right_rows d s.place s.right) rk (reads.sites_rows d all) rest (own.right_wholes d s.right) (own.sites_wholes d all) (right_parts s.place s.right) (sites_parts all)))
+      regrouped (reads.sites_rows d (s ∷ all)) (ps ++ (rk ++ rest)) ((ps ++ rk) ++ rest) (own.sites_wholes (s ∷ all)) (assoc ps rk rest)
+      (after_keys ps (reads.right_rows d s.place s.right ++ reads.sites_rows d all) (rk ++ rest) (own.sites_wholes (s ∷ all))
+      (of_both (reads.right_rows d s.place s.right) rk (reads.sites_rows d all) rest (own.right_wholes s.right) (own.sites_wholes all) (right_parts s.place s.right) (sites_parts all)))
 
   variable_parts : (x : ℕ) (o : Option Variable) → Parts (reads.variable_rows d x o) (own.variable_keys d x o) (own.variable_wholes d x o)
   variable_parts x None = of_keys []
@@ -107,10 +107,10 @@ module _ (d : Definition) where
       let ms = missing_rows d x w in
       let all = sites_of x d.places.sites in
       let rest = own.sites_keys d all in
-      regrouped (reads.variable_rows d x (Some w)) (ps ++ (ms ++ rest)) ((ps ++ ms) ++ rest) (own.sites_wholes d all) (assoc ps ms rest)
-      (after_keys ps (ms ++ reads.sites_rows d all) (ms ++ rest) (own.sites_wholes d all) (after_keys ms (reads.sites_rows d all) rest (own.sites_wholes d all) (sites_parts all)))
+      regrouped (reads.variable_rows d x (Some w)) (ps ++ (ms ++ rest)) ((ps ++ ms) ++ rest) (own.sites_wholes all) (assoc ps ms rest)
+      (after_keys ps (ms ++ reads.sites_rows d all) (ms ++ rest) (own.sites_wholes all) (after_keys ms (reads.sites_rows d all) rest (own.sites_wholes all) (sites_parts all)))
 
-  started_parts : (p : Place) (o : Option Start) → Parts (reads.start_of_rows d p o) (own.started_keys d p o) (own.started_wholes d o)
+  started_parts : (p : Place) (o : Option Start) → Parts (reads.start_of_rows d p o) (own.started_keys d p o) (own.started_wholes o)
   started_parts p None = of_keys []
   started_parts p (Some s) = keys_and (reset_rows p) (whole_rows d s.right) (s.right ∷ []) (of_whole s.right)
 
@@ -118,15 +118,15 @@ module _ (d : Definition) where
   initial_parts None = of_keys []
   initial_parts (Some w) = started_parts w.place (start_of w d.places.starts)
 
-  guards_parts : (all : List Transition) → Parts (reads.guard_rows d all) [] (own.guard_wholes d all)
+  guards_parts : (all : List Transition) → Parts (reads.guard_rows d all) [] (own.guard_wholes all)
   guards_parts [] = of_keys []
-  guards_parts (g ∷ gs) = of_both (whole_rows d g.cond) [] (reads.guard_rows d gs) [] (g.cond ∷ []) (own.guard_wholes d gs) (of_whole g.cond) (guards_parts gs)
+  guards_parts (g ∷ gs) = of_both (whole_rows d g.cond) [] (reads.guard_rows d gs) [] (g.cond ∷ []) (own.guard_wholes gs) (of_whole g.cond) (guards_parts gs)
 
-  states_parts : (all : List (ℕ × List Transition)) → Parts (reads.state_rows d all) [] (own.state_wholes d all)
+  states_parts : (all : List (ℕ × List Transition)) → Parts (reads.state_rows d all) [] (own.state_wholes all)
   states_parts [] = of_keys []
-  states_parts (s ∷ all) = of_both (reads.guard_rows d s.1) [] (reads.state_rows d all) [] (own.guard_wholes d s.1) (own.state_wholes d all) (guards_parts s.1) (states_parts all)
+  states_parts (s ∷ all) = of_both (reads.guard_rows d s.1) [] (reads.state_rows d all) [] (own.guard_wholes s.1) (own.state_wholes all) (guards_parts s.1) (states_parts all)
 
-  block_parts : (m : ℕ) (o : Option Named) → Parts (reads.block_rows d m o) (own.block_keys d m o) (own.block_wholes d o)
+  block_parts : (m : ℕ) (o : Option Named) → Parts (reads.block_rows d m o) (own.block_keys d m o) (own.block_wholes o)
   block_parts m None = of_keys []
   block_parts m (Some (named.Clock x)) = of_keys []
   block_parts m (Some (named.Match k all p)) = keys_and (place_rows p) (whole_rows d k) (k ∷ []) (of_whole k)
@@ -135,16 +135,16 @@ module _ (d : Definition) where
       let ps = place_rows p in
       let ms = mode_rows d m p in
       let ss = reads.state_rows d states in
-      let vs = own.state_wholes d states in
+      let vs = own.state_wholes states in
       after_keys (key.Name (m + 1) ∷ []) (ps ++ (ms ++ ss)) (ps ++ ms) vs (after_keys ps (ms ++ ss) ms vs (keys_and ms ss vs (states_parts states)))
   block_parts m (Some (named.Tested states p)) = of_keys (place_rows p ++ mode_rows d (m - 1) p)
 
   name_parts : (m : ℕ) (t : Bool) (o : Option Named)
-      → Parts (if t then [] else reads.block_rows d m o) (if t then [] else own.block_keys d m o) (if t then [] else own.block_wholes d o)
+      → Parts (if t then [] else reads.block_rows d m o) (if t then [] else own.block_keys d m o) (if t then [] else own.block_wholes o)
   name_parts m true o = of_keys []
   name_parts m false o = block_parts m o
 
-  condition_parts : (o : Option ℕ) → Parts (reads.condition_rows d o) [] (own.condition_wholes d o)
+  condition_parts : (o : Option ℕ) → Parts (reads.condition_rows d o) [] (own.condition_wholes o)
   condition_parts None = of_keys []
   condition_parts (Some k) = of_whole k
 

@@ -7,7 +7,9 @@ use Rattle.ls_places.specs.declared.definition.Key.{Key}
 use Rattle.ls_places.specs.declared.definition.Key.TheVariants as key
 use Rattle.ls_places.specs.declared.places.Frame.TheVariants as frame
 use Rattle.ls_places.specs.declared.places.Variable.{Variable}
-use Rattle.causality.specs.Nodes.{counts, node_at}
+use Rattle.ls_sig.specs.declared.sigs.Item.{Item}
+use Rattle.ls_sig.specs.declared.sigs.Item.TheVariants as item
+use Rattle.causality.specs.Nodes.{all_nodes, counts, node_in}
 use Rattle.causality.specs.declared.nodes.Node.{Node}
 use Rattle.causality.specs.declared.nodes.Node.TheVariants as node
 
@@ -22,9 +24,12 @@ row_of (node.Row k) = k ∷ []
 row_of (node.Whole k) = []
 
 -- the rows among some nodes
+abbrev pub rows_in : List Node → List ℕ → List Key
+rows_in nodes [] = []
+rows_in nodes (x ∷ xs) = row_of (node_in nodes x) ++ rows_in nodes xs
+
 abbrev pub cycle_rows : Definition → List ℕ → List Key
-cycle_rows d [] = []
-cycle_rows d (x ∷ xs) = row_of (node_at (counts d) x) ++ cycle_rows d xs
+cycle_rows d = rows_in (all_nodes (counts d))
 
 -- ---- where all rows of a cycle are conditions of resets
 
@@ -52,3 +57,13 @@ holds_marked marks (frame.Arm m j ∷ p) = holds_marked marks p
 abbrev pub first_marked : List Bool → List Variable → ℕ → Option ℕ
 first_marked marks [] k = None
 first_marked marks (w ∷ ws) k = if holds_marked marks w.place then Some k else first_marked marks ws (suc k)
+
+abbrev pub marks_of : Definition → List Key → List Bool
+marks_of d = marks_with (blank (length d.places.resets))
+
+abbrev pub option_var : Option ℕ → List Item
+option_var None = []
+option_var (Some x) = item.Var x ∷ []
+
+abbrev pub inside : Definition → List Key → List Item
+inside d ks = option_var (first_marked (marks_of d ks) d.places.vars 0)

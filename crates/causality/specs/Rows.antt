@@ -20,6 +20,38 @@ use Rattle.causality.specs.Nodes.{all_nodes, counts, key_node, whole_node}
 use Rattle.causality.specs.declared.nodes.Node.{Node}
 use Rattle.causality.specs.declared.nodes.Node.TheVariants as node
 
+-- ---- the whole expressions of equations and blocks
+
+abbrev pub right_wholes : Right → List ℕ
+right_wholes (rhs.Part pat k) = k ∷ []
+right_wholes (rhs.Whole k) = k ∷ []
+right_wholes (rhs.Pattern y pat) = []
+
+abbrev pub site_wholes : Site → List ℕ
+site_wholes s = right_wholes s.right
+
+abbrev pub sites_wholes : List Site → List ℕ
+sites_wholes all = joined (map site_wholes all)
+
+abbrev pub started_wholes : Option Start → List ℕ
+started_wholes None = []
+started_wholes (Some s) = s.right ∷ []
+
+abbrev pub guard_wholes : List Transition → List ℕ
+guard_wholes = map {A = Transition} {B = ℕ} (λ g. g.cond)
+
+abbrev pub state_wholes : List (ℕ × List Transition) → List ℕ
+state_wholes all = joined (map (λ (s : ℕ × List Transition). guard_wholes s.1) all)
+
+abbrev pub block_wholes : Option Named → List ℕ
+block_wholes (Some (named.Match k all p)) = k ∷ []
+block_wholes (Some (named.Active states p)) = state_wholes states
+block_wholes _ = []
+
+abbrev pub condition_wholes : Option ℕ → List ℕ
+condition_wholes None = []
+condition_wholes (Some k) = k ∷ []
+
 module _ (d : Definition) where
   -- ---- the rows that a row reads but for its whole expressions
 
@@ -54,56 +86,32 @@ module _ (d : Definition) where
   block_keys m (Some (named.Active states p)) = key.Name (m + 1) ∷ (place_rows p ++ mode_rows d m p)
   block_keys m (Some (named.Tested states p)) = place_rows p ++ mode_rows d (m - 1) p
 
+  abbrev pub name_keys : ℕ → List Key
+  name_keys m = if nat_lt m (length d.params) then [] else block_keys m (nth d.places.names (m - length d.params))
+
   abbrev pub keys : Key → List Key
   keys (key.Var x) = variable_keys x (nth d.places.vars x)
   keys (key.Start x) = initial_keys (nth d.places.vars x)
-  keys (key.Name m) = if nat_lt m (length d.params) then [] else block_keys m (nth d.places.names (m - length d.params))
+  keys (key.Name m) = name_keys m
   keys (key.Reset r) = []
 
   -- ---- its whole expressions
-
-  abbrev pub right_wholes : Right → List ℕ
-  right_wholes (rhs.Part pat k) = k ∷ []
-  right_wholes (rhs.Whole k) = k ∷ []
-  right_wholes (rhs.Pattern y pat) = []
-
-  abbrev pub site_wholes : Site → List ℕ
-  site_wholes s = right_wholes s.right
-
-  abbrev pub sites_wholes : List Site → List ℕ
-  sites_wholes all = joined (map site_wholes all)
 
   abbrev pub variable_wholes : ℕ → Option Variable → List ℕ
   variable_wholes x None = []
   variable_wholes x (Some w) = sites_wholes (sites_of x d.places.sites)
 
-  abbrev pub started_wholes : Option Start → List ℕ
-  started_wholes None = []
-  started_wholes (Some s) = s.right ∷ []
-
   abbrev pub initial_wholes : Option Variable → List ℕ
   initial_wholes None = []
   initial_wholes (Some w) = started_wholes (start_of w d.places.starts)
 
-  abbrev pub guard_wholes : List Transition → List ℕ
-  guard_wholes = map {A = Transition} {B = ℕ} (λ g. g.cond)
-
-  abbrev pub state_wholes : List (ℕ × List Transition) → List ℕ
-  state_wholes all = joined (map (λ (s : ℕ × List Transition). guard_wholes s.1) all)
-
-  abbrev pub block_wholes : Option Named → List ℕ
-  block_wholes (Some (named.Match k all p)) = k ∷ []
-  block_wholes (Some (named.Active states p)) = state_wholes states
-  block_wholes _ = []
-
-  abbrev pub condition_wholes : Option ℕ → List ℕ
-  condition_wholes None = []
-  condition_wholes (Some k) = k ∷ []
+  abbrev pub name_wholes : ℕ → List ℕ
+  name_wholes m = if nat_lt m (length d.params) then [] else block_wholes (nth d.places.names (m - length d.params))
 
   abbrev pub wholes : Key → List ℕ
   wholes (key.Var x) = variable_wholes x (nth d.places.vars x)
   wholes (key.Start x) = initial_wholes (nth d.places.vars x)
-  wholes (key.Name m) = if nat_lt m (length d.params) then [] else block_wholes (nth d.places.names (m - length d.params))
+  wholes (key.Name m) = name_wholes m
   wholes (key.Reset r) = condition_wholes (nth d.places.resets r)
 
   -- ---- the graph
@@ -114,10 +122,13 @@ module _ (d : Definition) where
   abbrev pub whole_nodes : List ℕ → List ℕ
   whole_nodes = map {A = ℕ} {B = ℕ} (whole_node (counts d))
 
+  abbrev pub whole_row : ℕ → List ℕ
+  whole_row k = key_nodes (whole_rows d k)
+
   abbrev pub node_row : Node → List ℕ
   node_row node.Nothing = []
   node_row (node.Row k) = key_nodes (keys k) ++ whole_nodes (wholes k)
-  node_row (node.Whole k) = key_nodes (whole_rows d k)
+  node_row (node.Whole k) = whole_row k
 
   abbrev pub rows : List (List ℕ)
   rows = map node_row (all_nodes (counts d))
