@@ -218,7 +218,7 @@ module _ (d : Definition) where
   rows_long = mapped (all_nodes (counts d)) ∙ nodes_long (counts d)
     where
       mapped : (ns : List Node) → length (map (node_row d) ns) ≡ length ns
-      mapped ns = length-map (node_row d) ns
+      mapped ns = length-map ns (node_row d)
 
   in_order : (order : List ℕ) → OrderOf (rows d) order → (k : Key) → In (at k) order
   in_order order o k = o.all (at k) (subst (λ z. at k < z) (sym rows_long) (key_below (counts d) k))

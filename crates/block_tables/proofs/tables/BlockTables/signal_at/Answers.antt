@@ -8,7 +8,7 @@ use Rattle.block_tables.proofs.tables.BlockTables.signal_at.Goals as goal
 pub returns : goal.returns
 returns c =
     let p = c.args.p.now in
-    let vars = c.self.inside.def.places.vars in
+    let vars = c.self.inside.tables.places.vars in
     subst (λ (z : Definition). c.signal_among.result ≡ spec.signal_at z c.args.x p) c.self.view_is
-    (c.signal_among.ensures ∙ ap (λ z. signals.signal_among p z c.group.result.now) c.as_slice.ensures.value
-    ∙ ap (signals.signal_among p vars) (c.group.ensures.value ∙ c.self.invariant.numbers_are.vars c.args.x) ∙ signal_found c.args.x p vars)
+    (c.signal_among.ensures ∙ ap (λ z. signals.signal_among p z c.group.result.now) (c.as_slice.ensures.value ∙ ap (λ (z : Definition). z.places.vars) c.definition.ensures)
+    ∙ ap (signals.signal_among p vars) (c.group.ensures.value ∙ c.self.invariant.vars_are c.args.x) ∙ signal_found c.args.x p vars)
