@@ -1,13 +1,14 @@
 -- What the table of constructors answers.
-use Rattle.std.specs.Prelude.{◌≡◌, refl, ℕ, zero, suc, ◌==◌, List, [], ◌∷◌, ◌++◌, Option, Some, None, if◌then◌else◌, Bool, true, false}
-use Rattle.std.proofs.Common.{ap, sym, ◌∙◌}
+use Rattle.std.specs.Prelude.{◌≡◌, ◌≤◌, length, refl, ℕ, zero, suc, ◌==◌, List, [], ◌∷◌, ◌++◌, Option, Some, if◌then◌else◌, Bool, true, false}
+use Rattle.std.proofs.Common.{ap, sym, ◌∙◌, drop}
+use Rattle.std.proofs.lemmas.List.{append-nil, drop_all}
 use Rattle.ls_ast.specs.declared.tree.DefOf.{DefOf}
 use Rattle.ls_ast.specs.declared.tree.DefOf.TheVariants as item
 use Rattle.ls_base.specs.declared.Name.{Name}
 use Rattle.ls_places.specs.Clocks.{or_else}
 use Rattle.ls_places.specs.Definitions.{case_place, constructor_place, place_in}
 use Rattle.term_unify.specs.Terms.{first}
-use Rattle.case_tables.specs.Cases.{places_from, places_of, places, place_at}
+use Rattle.case_tables.specs.Cases.{places_from, places, place_at}
 
 chosen : (c : Bool) (k : ℕ) (o p : Option ℕ) → (if c then Some k else or_else o p) ≡ or_else (if c then Some k else o) p
 chosen true k o p = refl
@@ -30,3 +31,7 @@ module _ {N : Type 0} where
 
   pub cases_are : (list : List (ℕ × ℕ)) (ds : List (DefOf N)) → list ≡ places ds → place_at list ≡ case_place ds
   cases_are list ds e = ap place_at e ∙ (λ i x. place_is ds x i)
+
+  -- what was gathered to the end
+  pub gathered : (list : List (ℕ × ℕ)) (ds : List (DefOf N)) (i : ℕ) → length ds ≤ i → list ++ places (drop i ds) ≡ places ds → place_at list ≡ case_place ds
+  gathered list ds i over h = cases_are list ds (sym (append-nil list) ∙ ap (λ z. list ++ places z) (sym (drop_all i ds over)) ∙ h)

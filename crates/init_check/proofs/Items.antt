@@ -9,7 +9,7 @@ use Rattle.ls_ast.specs.declared.tree.Mark.{Mark}
 use Rattle.ls_ast.specs.declared.tree.Pat.{Pat}
 use Rattle.ls_base.specs.declared.Line.{Line}
 use Rattle.ls_base.specs.declared.Name.{Name}
-use Rattle.ls_places.specs.Definitions.{definition_of}
+use Rattle.ls_places.specs.Definitions.{case_place, definition_of}
 use Rattle.ls_places.specs.Places.{option_list}
 use Rattle.ls_sig.specs.declared.binder.Note.{Note}
 use Rattle.ls_sig.specs.declared.sigs.InitSig.{InitSig}
@@ -120,3 +120,19 @@ module _ (cases : ℕ → Option ℕ) where
       subst (λ z. Decided (definition_of cases params z body) sigs (data_marks params marks) (Some s)) n
       (subst (λ z. Decided (definition_of cases params ns body) sigs (data_marks params z) (Some s)) m (subst (Decided (definition_of cases params ns body) sigs (data_marks params ms)) some decided)) in
       subst (λ z. ItemJudged sigs z (Some s)) (sym is) (s, refl, both.0, both.1)
+
+-- ---- the places of constructors
+
+pub places_are : (p : ℕ → Option ℕ) (xs ys : List (DefOf Note)) → p ≡ case_place xs → xs ≡ ys → p ≡ case_place ys
+places_are p xs ys e f = e ∙ ap case_place f
+
+pub judged_there : (p q : ℕ → Option ℕ) (sigs before ss : List InitSig) (xs ys : List (DefOf Note)) → p ≡ q → xs ≡ ys → before ≡ sigs
+    → Judged before (files.lets p xs) ss → Judged sigs (files.lets q ys) ss
+judged_there p q sigs before ss xs ys e f b j =
+    subst (λ z. Judged z (files.lets q ys) ss) b (subst (λ z. Judged before (files.lets q z) ss) f (subst (λ z. Judged before (files.lets z xs) ss) e j))
+
+pub fault_there : (f : InitFault) (p q : ℕ → Option ℕ) (sigs before : List InitSig) (xs ys : List (DefOf Note)) → p ≡ q → xs ≡ ys → before ≡ sigs
+    → AtLine f (Uninitialised before (files.lets p xs)) → AtLine f (Uninitialised sigs (files.lets q ys))
+fault_there f p q sigs before xs ys e g b j =
+    subst (λ z. AtLine f (Uninitialised z (files.lets q ys))) b
+    (subst (λ z. AtLine f (Uninitialised before (files.lets q z))) g (subst (λ z. AtLine f (Uninitialised before (files.lets z xs))) e j))

@@ -197,8 +197,10 @@ pub fn check_init_after(alloc: Global, env: &Env, file: &Ann) -> Result<InitSigs
     ensures fault { IfErr result (λ f. own.AtLine f (spec.Uninitialised env.now.inits.list (spec.lets (case_place file.now.defs) file.now.defs))) }
 {
     let cases = Cases::new(alloc, file.defs.as_slice())?;
-    let list = judge_all(alloc, &cases, &env.inits.list, file.defs.as_slice())?;
-    Ok(InitSigs { list })
+    match judge_all(alloc, &cases, &env.inits.list, file.defs.as_slice()) {
+        Ok(list) => Ok(InitSigs { list }),
+        Err(fault) => Err(fault),
+    }
 }
 
 /// The initialisation signatures of the definitions of a file: `check_init_after` the environment
@@ -209,6 +211,8 @@ pub fn check_init(alloc: Global, file: &Ann) -> Result<InitSigs, InitFault>
 {
     let none = List::new(alloc);
     let cases = Cases::new(alloc, file.defs.as_slice())?;
-    let list = judge_all(alloc, &cases, &none, file.defs.as_slice())?;
-    Ok(InitSigs { list })
+    match judge_all(alloc, &cases, &none, file.defs.as_slice()) {
+        Ok(list) => Ok(InitSigs { list }),
+        Err(fault) => Err(fault),
+    }
 }
