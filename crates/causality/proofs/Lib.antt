@@ -1,4 +1,5 @@
 pub mod Conditions
+pub mod Forms
 pub mod ItemRows
 pub mod Known
 pub mod LetsJudged
