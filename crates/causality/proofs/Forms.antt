@@ -5,7 +5,7 @@ use Rattle.ls_ast.specs.declared.tree.Case.{Case}
 use Rattle.ls_ast.specs.declared.tree.Form.{Form, fold-roll-Form}
 use Rattle.ls_ast.specs.declared.tree.Form.TheOpen.{Form-F}
 use Rattle.ls_ast.specs.declared.tree.Form.TheVariants as form
-use Rattle.ls_ast.specs.declared.tree.Expr.{fold-Expr}
+use Rattle.ls_ast.specs.declared.tree.Expr.{fold-Expr, fold_out-Expr}
 use Rattle.ls_base.specs.declared.Name.{Name}
 use Rattle.ls_ops.specs.declared.kinds.Op.{Op}
 use Rattle.ls_places.specs.Clocks.{choice_parts}
@@ -14,7 +14,7 @@ use Rattle.ls_places.specs.declared.definition.Definition.{Definition}
 use Rattle.ls_places.specs.declared.definition.Key.{Key}
 use Rattle.ls_sig.specs.declared.binder.Note.{Note}
 use Rattle.causality_rules.specs.Reads as reads
-use Rattle.causality_rules.specs.Reads.{Read, all_read, bound_rows, every_read, expr_rows, read_by, restart_rows}
+use Rattle.causality_rules.specs.Reads.{Read, all_read, bound_rows, clock_rows, every_read, expr_rows, read_by, restart_rows}
 use Rattle.causality.specs.Walks as own
 
 module _ (d : Definition) (n : Note) (f : Form Note) where
@@ -102,3 +102,13 @@ module _ (d : Definition) (n : Note) (f : Form Note) where
       ∙ ap (λ z. out ++ z) (ap (λ z. bound_rows n.bound ++ (z ++ read_by d last)) (ap (own.all_rows d) e ∙ all_are args)
       ∙ ap (λ (z : Note → List Key). z n) (sym (fold-roll-Form Note (Note → List Key) Read (reads.form_rows d) (expr_rows d) (Form-F.Call run head args (Some last))))
       ∙ ap rows_at (form.rolls-Call run head args (Some last) ∙ ap (form.Call run head args) (sym some) ∙ sym is))
+
+-- an expression reads the names in its own clock, and what its form reads
+expr_is : (d : Definition) (e : E) → read_by d e ≡ clock_rows d e.note.ck ++ own.form_rows d e.form e.note
+expr_is d e = ap (λ (r : Read). r.rows) (fold_out-Expr Note (Note → List Key) Read (reads.form_rows d) (expr_rows d) e)
+
+pub expr_pushed : (d def : Definition) (e : E) (form : Form Note) (out clocked : List Key) → def ≡ d → form ≡ e.form → clocked ≡ out ++ clock_rows def e.note.ck
+    → clocked ++ own.form_rows d form e.note ≡ out ++ read_by d e
+expr_pushed d def e form out clocked is f c =
+    ap (λ z. z ++ own.form_rows d form e.note) (c ∙ ap (λ z. out ++ clock_rows z e.note.ck) is) ∙ append_assoc out (clock_rows d e.note.ck) (own.form_rows d form e.note)
+    ∙ ap (λ z. out ++ z) (ap (λ z. clock_rows d e.note.ck ++ own.form_rows d z e.note) f ∙ sym (expr_is d e))

@@ -214,7 +214,7 @@ module _ (d : Definition) where
 
   -- ---- numbers
 
-  rows_long : length (rows d) ≡ total (counts d)
+  pub rows_long : length (rows d) ≡ total (counts d)
   rows_long = mapped (all_nodes (counts d)) ∙ nodes_long (counts d)
     where
       mapped : (ns : List Node) → length (map (node_row d) ns) ≡ length ns

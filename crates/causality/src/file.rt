@@ -75,7 +75,8 @@ fn tables(
         result: body.result.copy(alloc)?,
         places,
     };
-    BlockTables::new(alloc, Tables::new(alloc, def)?)
+    let known = Tables::new(alloc, def)?;
+    BlockTables::new(alloc, known)
 }
 
 // Whether the nodes and the clock names are numbers of 32 bits.
@@ -167,6 +168,8 @@ pub fn check_causality(alloc: Global, file: &Ann) -> Result<Ranks, CauseFault>
     ensures looped { IfErr result (λ f. own.AtCycle f (λ line items. (items ≢ []) × spec.Looped (spec.lets (case_place file.now.defs) file.now.defs) line items)) }
 {
     let cases = Cases::new(alloc, file.defs.as_slice())?;
-    let list = judge_all(alloc, &cases, file.defs.as_slice())?;
-    Ok(Ranks { list })
+    match judge_all(alloc, &cases, file.defs.as_slice()) {
+        Ok(list) => Ok(Ranks { list }),
+        Err(fault) => Err(fault),
+    }
 }
