@@ -59,6 +59,25 @@ fn note_clocks(alloc: Global, notes: &[Note]) -> Result<List<ClockTerm>, NoMemor
     Ok(done)
 }
 
+// A definition, with what stands where in its body.
+fn definition(
+    alloc: Global,
+    cases: &Cases,
+    params: &List<Pat>,
+    notes: &[Note],
+    body: &BodyOf<Note>,
+) -> Result<Definition, NoMemory>
+    ensures { IfOk result (λ r. r ≡ definitions.definition_of (place cases.now) params.now notes.now body.now) }
+{
+    let places = find(alloc, params.len() as u32, cases, &NoteSignals, body)?;
+    Ok(Definition {
+        params: params.copy(alloc)?,
+        clocks: note_clocks(alloc, notes)?,
+        result: body.result.copy(alloc)?,
+        places,
+    })
+}
+
 fn tables(
     alloc: Global,
     cases: &Cases,
@@ -68,13 +87,7 @@ fn tables(
 ) -> Result<BlockTables, NoMemory>
     ensures { IfOk result (λ r. r ≡ definitions.definition_of (place cases.now) params.now notes.now body.now) }
 {
-    let places = find(alloc, params.len() as u32, cases, &NoteSignals, body)?;
-    let def = Definition {
-        params: params.copy(alloc)?,
-        clocks: note_clocks(alloc, notes)?,
-        result: body.result.copy(alloc)?,
-        places,
-    };
+    let def = definition(alloc, cases, params, notes, body)?;
     let known = Tables::new(alloc, def)?;
     BlockTables::new(alloc, known)
 }
