@@ -37,7 +37,7 @@ use Rattle.causality_rules.proofs.Lists.{in_cons}
 -- ---- an expression that reads the condition of a `reset` has `last x` of a variable inside it
 
 module _ (d : Definition) where
-  abbrev Found : ℕ → Type 0
+  abbrev pub Found : ℕ → Type 0
   Found q = (x : ℕ) × (w : Variable) × (nth d.places.vars x ≡ Some w) × In (key.Reset q) (reset_rows w.place)
 
   abbrev P : List Key → Type 0
@@ -192,7 +192,7 @@ module _ (d : Definition) where
       | inr a ↦ inr (p_expr (whole_of d k).expr q a)
     ]
 
-    edge : (r q : ℕ) → In (key.Reset q) (reads d (key.Reset r)) → (q < r) ⊎ Found q
+    pub edge : (r q : ℕ) → In (key.Reset q) (reads d (key.Reset r)) → (q < r) ⊎ Found q
     edge r q h = edge_of r (nth d.places.resets r) refl q h
 
     -- on the way from one to another, or the other is earlier
@@ -236,7 +236,7 @@ module _ (d : Definition) where
     self q m w (inl e) = subst (λ k. W (key.Reset k) (key.Reset m)) (sym e) w
     self q m w (inr v) = join (key.Reset m) (key.Reset q) (key.Reset m) refl v w
 
-    var_reads : (q x : ℕ) (w : Variable) → nth d.places.vars x ≡ Some w → In (key.Reset q) (reset_rows w.place) → In (key.Reset q) (reads d (key.Var x))
+    pub var_reads : (q x : ℕ) (w : Variable) → nth d.places.vars x ≡ Some w → In (key.Reset q) (reset_rows w.place) → In (key.Reset q) (reads d (key.Var x))
     var_reads q x w e h = subst (λ o. In (key.Reset q) (Causal.variable_rows d x o)) (sym e)
         (in_left (key.Reset q) (place_rows w.place) (Causal.missing_rows d x w ++ Causal.sites_rows d (sites_of x d.places.sites)) (reset_place q w.place h))
 

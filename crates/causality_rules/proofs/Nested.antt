@@ -1,6 +1,7 @@
--- The condition of a `reset` stands inside earlier resets alone: each step of the walk keeps this.
-use Rattle.std.specs.Prelude.{◌≡◌, refl, ℕ, zero, suc, ◌+◌, ◌<◌, ◌≤◌, ◌⊎◌, Bool, true, false, List, [], ◌∷◌, ◌++◌, map, length, Option, Some, None}
-use Rattle.std.proofs.Common.{ap, sym, subst, arith, inl, inr}
+-- The condition of a `reset` stands inside earlier resets alone, and the two rows of an automaton side by side: each step of
+-- the walk keeps this.
+use Rattle.std.specs.Prelude.{◌≡◌, refl, ℕ, zero, suc, ◌+◌, ◌<◌, ◌≤◌, ◌⊎◌, Bool, true, false, List, [], ◌∷◌, ◌++◌, map, length, slice_set, Option, Some, None, unwrap_or}
+use Rattle.std.proofs.Common.{ap, sym, subst, ◌∙◌, arith, append_assoc, inl, inr}
 use Rattle.std.proofs.lemmas.List.{length-append}
 use Rattle.ls_ast.specs.declared.tree.Expr.{Expr}
 use Rattle.ls_ast.specs.declared.tree.Pat.{Pat}
@@ -30,7 +31,7 @@ use Rattle.ls_places.specs.declared.places.Whole.{Whole}
 use Rattle.digraph.specs.Graph.{In}
 use Rattle.digraph.proofs.Marks.{none_in, in_either}
 use Rattle.causality_rules.specs.Reads.{place_rows}
-use Rattle.causality_rules.specs.Laws.{DefinitionNests}
+use Rattle.causality_rules.specs.Laws.{DefinitionNests, DefinitionPairs, ModesPaired}
 use Rattle.causality_rules.proofs.Lists.{in_cons}
 
 abbrev N : Type 0
@@ -103,23 +104,71 @@ nth_more [] x (suc r) k e = absurd (cc e)
 nth_more (y ∷ ys) x zero k e = inl e
 nth_more (y ∷ ys) x (suc r) k e = elim (nth_more ys x r k e) [ inl a ↦ inl a | inr a ↦ inr (ap suc a.0, a.1) ]
 
+-- ---- more clock names, whose modes are paired
+
+paired_append : (t : Bool) (xs ys : List Named) → ModesPaired t xs → ModesPaired false ys → ModesPaired t (xs ++ ys)
+paired_append true [] ys h k = absurd h
+paired_append true (named.Clock x ∷ xs) ys h k = absurd h
+paired_append true (named.Match e all p ∷ xs) ys h k = absurd h
+paired_append true (named.Present all p ∷ xs) ys h k = absurd h
+paired_append true (named.Active s p ∷ xs) ys h k = absurd h
+paired_append true (named.Tested s p ∷ xs) ys h k = paired_append false xs ys h k
+paired_append false [] ys h k = k
+paired_append false (named.Clock x ∷ xs) ys h k = paired_append false xs ys h k
+paired_append false (named.Match e all p ∷ xs) ys h k = paired_append false xs ys h k
+paired_append false (named.Present all p ∷ xs) ys h k = paired_append false xs ys h k
+paired_append false (named.Active s p ∷ xs) ys h k = paired_append true xs ys h k
+paired_append false (named.Tested s p ∷ xs) ys h k = absurd h
+
+pub record Adds (xs ys : List Named) : Type 0 where
+  pub more : List Named
+  pub is : ys ≡ xs ++ more
+  pub paired : ModesPaired false more
+
+nothing_after : {A : Type 0} → (xs : List A) → xs ≡ xs ++ []
+nothing_after [] = refl
+nothing_after (x ∷ xs) = ap (λ z. x ∷ z) (nothing_after xs)
+
+adds_none : (xs : List Named) → Adds xs xs
+adds_none xs = record { more = []; is = nothing_after xs; paired = tt }
+
+adds_then : (xs ys zs : List Named) → Adds xs ys → Adds ys zs → Adds xs zs
+adds_then xs ys zs a c = record {
+  more = a.more ++ c.more;
+  is = c.is ∙ ap (λ z. z ++ c.more) a.is ∙ append_assoc xs a.more c.more;
+  paired = paired_append false a.more c.more a.paired c.paired;
+}
+
+set_at : (xs : List Named) (y z : Named) (ys : List Named) → slice_set (xs ++ y ∷ ys) (length xs) z ≡ xs ++ z ∷ ys
+set_at [] y z ys = refl
+set_at (x ∷ xs) y z ys = ap (λ l. x ∷ l) (set_at xs y z ys)
+
+one_on : (n : ℕ) → suc n + 1 ≡ suc (n + 1)
+one_on n = omega arith
+
+set_next : (xs : List Named) (x y z : Named) (ys : List Named) → slice_set (xs ++ x ∷ y ∷ ys) (length xs + 1) z ≡ xs ++ x ∷ z ∷ ys
+set_next [] x y z ys = let e : 0 + 1 ≡ 1 = omega arith in ap (λ i. slice_set (x ∷ y ∷ ys) i z) e
+set_next (w ∷ xs) x y z ys = ap (λ i. slice_set (w ∷ xs ++ x ∷ y ∷ ys) i z) (one_on (length xs)) ∙ ap (λ l. w ∷ l) (set_next xs x y z ys)
+
 -- ---- what a step of the walk does
 
 pub record Goes (w : Where) (f g : F) : Type 0 where
   pub resets : length f.resets ≤ length g.resets
   pub kept : Inside (length f.resets) w.place → Nested f → Nested g
+  pub names : Adds f.names g.names
 
 stays : (w : Where) (f : F) → Goes w f f
-stays w f = record { resets = omega arith; kept = λ i h. h }
+stays w f = record { resets = omega arith; kept = λ i h. h; names = adds_none f.names }
 
 goes_on : (w : Where) (f g h : F) → Goes w f g → Goes w g h → Goes w f h
 goes_on w f g h a c = record {
   resets = let p = a.resets in let q = c.resets in omega (arith, p, q);
   kept = λ i n. c.kept (inside_more (length f.resets) (length g.resets) w.place a.resets i) (a.kept i n);
+  names = adds_then f.names g.names h.names a.names c.names;
 }
 
 goes_at : (w v : Where) (f g : F) → (Inside (length f.resets) w.place → Inside (length f.resets) v.place) → Goes v f g → Goes w f g
-goes_at w v f g t a = record { resets = a.resets; kept = λ i n. a.kept (t i) n }
+goes_at w v f g t a = record { resets = a.resets; kept = λ i n. a.kept (t i) n; names = a.names }
 
 read_goes : (e : Expr N) (p : Places.Place) (w : Where) (f : F) → Goes w f (Places.reading N e p f)
 read_goes e p w f =
@@ -130,20 +179,22 @@ read_goes e p w f =
         (let l = longer f.exprs x in let m = o.0 in omega (arith, l, m)),
         subst (λ (z : Whole N). Inside r z.place) (sym (whole_first f.exprs x k o.0)) o.1,
       );
+      names = adds_none f.names;
     }
 
 -- what changes no condition and no expression
-same_goes : (w : Where) (f g : F) → g.resets ≡ f.resets → g.exprs ≡ f.exprs → Goes w f g
-same_goes w f g e x = record {
+same_goes : (w : Where) (f g : F) → g.resets ≡ f.resets → g.exprs ≡ f.exprs → Adds f.names g.names → Goes w f g
+same_goes w f g e x names = record {
   resets = subst (λ z. length f.resets ≤ length z) (sym e) (omega arith);
   kept = λ i h r k s. subst (λ z. (k < length z) × Inside r (whole_at z k).place) (sym x) (h r k (subst (λ z. nth z r ≡ Some k) e s));
+  names = names;
 }
 
-name_goes : (n : Named) (w : Where) (f : F) → Goes w f (Places.naming N n f)
-name_goes n w f = same_goes w f (Places.naming N n f) refl refl
+name_goes : (n : Named) (w : Where) (f : F) → ModesPaired false (n ∷ []) → Goes w f (Places.naming N n f)
+name_goes n w f h = same_goes w f (Places.naming N n f) refl refl (record { more = n ∷ []; is = refl; paired = h })
 
 site_goes : (xs : List ℕ) (signal : Bool) (right : Right) (w : Where) (f : F) → Goes w f (Places.site_at N xs signal right w f)
-site_goes xs signal right w f = same_goes w f (Places.site_at N xs signal right w f) refl refl
+site_goes xs signal right w f = same_goes w f (Places.site_at N xs signal right w f) refl refl (adds_none f.names)
 
 plain_goes : (p : Pat) (signal : Bool) (e : Expr N) (w : Where) (f : F) → Goes w f (Places.plain_at N p signal e w f)
 plain_goes p signal e w f = goes_on w f (Places.reading N e w.place f) (Places.plain_at N p signal e w f) (read_goes e w.place w f)
@@ -154,13 +205,14 @@ whole_goes x signal e w f = goes_on w f (Places.reading N e w.place f) (Places.w
     (site_goes (x ∷ []) signal (rhs.Whole (Places.next_expr N f)) w (Places.reading N e w.place f))
 
 clock_goes : (x : ℕ) (e : Expr N) (w : Where) (f : F) → Goes w f (Places.clock_at N x w (Places.whole_at N x false e w f))
-clock_goes x e w f = goes_on w f (Places.whole_at N x false e w f) (Places.clock_at N x w (Places.whole_at N x false e w f)) (whole_goes x false e w f)
-    (same_goes w (Places.whole_at N x false e w f) (Places.clock_at N x w (Places.whole_at N x false e w f)) refl refl)
+clock_goes x e w f =
+    let g : F = Places.whole_at N x false e w f in
+    goes_on w f g (Places.clock_at N x w g) (whole_goes x false e w f) (name_goes (named.Clock (unwrap_or (place_of x (arms (spot w)) g.vars 0) 0)) w g tt)
 
 start_goes : (x : ℕ) (e : Expr N) (w : Where) (f : F) → Goes w f (Places.start_at N x e w f)
 start_goes x e w f =
     let g : F = record f { starts = f.starts ++ record { name = x; list = arms (spot w); right = Places.next_expr N f } ∷ [] } in
-    goes_on w f g (Places.start_at N x e w f) (same_goes w f g refl refl) (read_goes e w.place w g)
+    goes_on w f g (Places.start_at N x e w f) (same_goes w f g refl refl (adds_none f.names)) (read_goes e w.place w g)
 
 reset_case : (e : Expr N) (w : Where) (f : F) → Inside (length f.resets) w.place → Nested f → (r k : ℕ)
     → (nth f.resets r ≡ Some k) ⊎ ((r ≡ length f.resets) × (length f.exprs ≡ k))
@@ -184,17 +236,30 @@ reset_goes : (e : Expr N) (w : Where) (f : F) → Goes w f (Places.open_reset N 
 reset_goes e w f = record {
   resets = let l = longer f.resets (Places.next_expr N f) in omega (arith, l);
   kept = λ i h r k s. reset_case e w f i h r k (nth_more f.resets (Places.next_expr N f) r k s);
+  names = adds_none f.names;
 }
 
 match_goes : (e : Expr N) (all : List (Option ℕ)) (w : Where) (f : F) → Goes w f (Places.open_match N e all w f)
 match_goes e all w f = goes_on w f (Places.reading N e w.place f) (Places.open_match N e all w f) (read_goes e w.place w f)
-    (name_goes (named.Match (Places.next_expr N f) all w.place) w (Places.reading N e w.place f))
+    (name_goes (named.Match (Places.next_expr N f) all w.place) w (Places.reading N e w.place f) tt)
 
 open_goes : (p : Places.Place) (w : Where) (f : F) → Goes w f (Places.open_modes N p f)
 open_goes p w f = same_goes w f (Places.open_modes N p f) refl refl
+    (record { more = named.Active [] p ∷ named.Tested [] p ∷ []; is = append_assoc f.names (named.Active [] p ∷ []) (named.Tested [] p ∷ []); paired = tt })
 
-close_goes : (k : ℕ) (strong weak : Places.Guards N) (p : Places.Place) (w : Where) (f : F) → Goes w f (Places.close_modes N k strong weak p f)
-close_goes k strong weak p w f = same_goes w f (Places.close_modes N k strong weak p f) refl refl
+-- `f` is what was found before the automaton, and `g` what its arms made of it with its two names
+closed : (strong weak : Places.Guards N) (p : Places.Place) (f g : F) → Adds (Places.open_modes N p f).names g.names → Adds f.names (Places.close_modes N (length f.names) strong weak p g).names
+closed strong weak p f g a =
+    let x = named.Active [] p in
+    let y = named.Tested [] p in
+    record {
+      more = named.Active strong p ∷ named.Tested weak p ∷ a.more;
+      is = ap (λ z. slice_set (slice_set z (length f.names) (named.Active strong p)) (length f.names + 1) (named.Tested weak p))
+          (a.is ∙ append_assoc (f.names ++ x ∷ []) (y ∷ []) a.more ∙ append_assoc f.names (x ∷ []) (y ∷ a.more))
+          ∙ ap (λ z. slice_set z (length f.names + 1) (named.Tested weak p)) (set_at f.names x (named.Active strong p) (y ∷ a.more))
+          ∙ set_next f.names (named.Active strong p) y (named.Tested weak p) a.more;
+      paired = a.paired;
+    }
 
 pattern_goes : (s : ℕ) (o : Option Pat) (w : Where) (f : F) → Goes w f (Places.bind_pattern N s o w f)
 pattern_goes s None w f = stays w f
@@ -260,9 +325,13 @@ module _ (first : ℕ) (cases : ℕ → Option ℕ) (signal : Expr N → Bool) w
       let m : ℕ = Places.next N first cases signal f in
       let opened : F = Places.open_modes N w.place f in
       let done : F = Places.arms_from N m 0 (Places.state_walks N all) w opened in
-      goes_on w f opened _ (open_goes w.place w f)
-      (goes_on w opened done _ (arms_go (Places.state_walks N all) (state_arms all h) m 0 w opened)
-      (close_goes (length f.names) (Places.strongs_from N m 0 all w opened) (Places.weaks_from N m 0 all w opened) w.place w done))
+      let inside : Goes w opened done = arms_go (Places.state_walks N all) (state_arms all h) m 0 w opened in
+      let both : Goes w f done = goes_on w f opened done (open_goes w.place w f) inside in
+      record {
+        resets = both.resets;
+        kept = both.kept;
+        names = closed (Places.strongs_from N m 0 all w opened) (Places.weaks_from N m 0 all w opened) w.place f done inside.names;
+      }
 
   -- ---- one layer
 
@@ -351,9 +420,9 @@ module _ (first : ℕ) (cases : ℕ → Option ℕ) (signal : Expr N → Bool) w
       (walks_go (map (Places.walk_of N first cases signal) (equations_of ps)) (each_walk ps) (Places.in_reset (length f.resets) w) (Places.open_reset N e w f)))
   layer_goes (Equation-F.Match e ps) w f = goes_on w f (Places.open_match N e _ w f) _ (match_goes e _ w f)
       (arms_go _ (each_arm ps) (Places.next N first cases signal f) 0 w (Places.open_match N e _ w f))
-  layer_goes (Equation-F.Present ps None) w f = goes_on w f (Places.open_present N _ w f) _ (name_goes _ w f)
+  layer_goes (Equation-F.Present ps None) w f = goes_on w f (Places.open_present N _ w f) _ (name_goes _ w f tt)
       (arms_go _ (each_both _ [] (each_test ps) tt) (Places.next N first cases signal f) 0 w (Places.open_present N _ w f))
-  layer_goes (Equation-F.Present ps (Some h)) w f = goes_on w f (Places.open_present N _ w f) _ (name_goes _ w f)
+  layer_goes (Equation-F.Present ps (Some h)) w f = goes_on w f (Places.open_present N _ w f) _ (name_goes _ w f tt)
       (arms_go _ (each_both _ (Places.handler_of N first cases signal h.0 ∷ []) (each_test ps) (h.1, tt)) (Places.next N first cases signal f) 0 w (Places.open_present N _ w f))
   layer_goes (Equation-F.Automaton ps) w f = automaton_goes _ (each_state ps) w f
 
@@ -416,7 +485,13 @@ module _ (first : ℕ) (cases : ℕ → Option ℕ) (signal : Expr N → Bool) w
   each_equation [] = tt
   each_equation (x ∷ xs) = (equations_good x, each_equation xs)
 
-  -- what is found in a body is nested
+  -- what is found in a body has paired modes
+  pub found_paired : (b : BodyOf N) → ModesPaired false (Places.find N first cases signal b).names
+  found_paired b =
+      let a = (walks_go _ (each_equation b.eqs) Places.at_top (Places.nothing N)).names in
+      subst (ModesPaired false) (sym a.is) a.paired
+
+  -- and is nested
   pub found_nested : (b : BodyOf N) → Nested (Places.find N first cases signal b)
   found_nested b =
       let walked : F = Places.walk_body N first cases signal b.eqs Places.at_top (Places.nothing N) in
@@ -427,3 +502,6 @@ module _ (first : ℕ) (cases : ℕ → Option ℕ) (signal : Expr N → Bool) w
 
 pub definition_nests : DefinitionNests
 definition_nests cases params notes body = λ r k s q h. (found_nested (length params) cases (λ e. is_signal e.note) body r k s).1 q h
+
+pub definition_pairs : DefinitionPairs
+definition_pairs cases params notes body = found_paired (length params) cases (λ e. is_signal e.note) body

@@ -1,5 +1,5 @@
 -- Laws of causality.
-use Rattle.std.specs.Prelude.{◌≡◌, ℕ, ◌<◌, List, [], Option, Some}
+use Rattle.std.specs.Prelude.{◌≡◌, ℕ, ◌<◌, Bool, true, false, List, [], ◌∷◌, Option, Some}
 use Rattle.ls_ast.specs.declared.tree.BodyOf.{BodyOf}
 use Rattle.ls_ast.specs.declared.tree.Pat.{Pat}
 use Rattle.ls_sig.specs.declared.binder.Note.{Note}
@@ -9,6 +9,8 @@ use Rattle.ls_places.specs.Definitions.{definition_of}
 use Rattle.ls_places.specs.declared.definition.Definition.{Definition}
 use Rattle.ls_places.specs.declared.definition.Key.{Key}
 use Rattle.ls_places.specs.declared.definition.Key.TheVariants as key
+use Rattle.ls_places.specs.declared.places.Named.{Named}
+use Rattle.ls_places.specs.declared.places.Named.TheVariants as named
 use Rattle.ls_places.specs.Search.{nth, whole_of}
 use Rattle.digraph.specs.Graph.{In}
 use Rattle.digraph.specs.Numbering.{Cycle}
@@ -31,6 +33,22 @@ ResetsNested d = (r k : ℕ) → nth d.places.resets r ≡ Some k → (q : ℕ) 
 -- as those of a definition do
 abbrev pub DefinitionNests : Type 0
 DefinitionNests = (cases : ℕ → Option ℕ) (params : List Pat) (notes : List Note) (body : BodyOf Note) → ResetsNested (definition_of cases params notes body)
+
+-- The tested row of an automaton comes right after its active row, and nowhere else. The flag says that an active row is
+-- the last one before.
+abbrev pub ModesPaired : Bool → List Named → Type 0
+ModesPaired true [] = ⊥
+ModesPaired true (named.Tested states p ∷ names) = ModesPaired false names
+ModesPaired true (_ ∷ names) = ⊥
+ModesPaired false [] = Unit {0}
+ModesPaired false (named.Active states p ∷ names) = ModesPaired true names
+ModesPaired false (named.Tested states p ∷ names) = ⊥
+ModesPaired false (_ ∷ names) = ModesPaired false names
+
+-- as in a definition
+abbrev pub DefinitionPairs : Type 0
+DefinitionPairs = (cases : ℕ → Option ℕ) (params : List Pat) (notes : List Note) (body : BodyOf Note)
+    → ModesPaired false (definition_of cases params notes body).places.names
 
 -- every cycle of rows gives items that wait for one another
 abbrev pub CycleGivesItems : Type 0

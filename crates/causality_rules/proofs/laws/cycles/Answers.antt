@@ -1,6 +1,6 @@
 use Rattle.causality_rules.proofs.Cycles.{cycle_gives_items}
 use Rattle.causality_rules.proofs.Files.{cyclic_excludes}
-use Rattle.causality_rules.proofs.Nested.{definition_nests}
+use Rattle.causality_rules.proofs.Nested.{definition_nests, definition_pairs}
 use Rattle.causality_rules.proofs.laws.cycles.Goals as goal
 
 pub returns-clause-items : goal.returns-clause-items
@@ -11,3 +11,6 @@ returns-clause-excluded c = λ d rows cycle is. cyclic_excludes d rows cycle is
 
 pub returns-clause-nests : goal.returns-clause-nests
 returns-clause-nests c = definition_nests
+
+pub returns-clause-pairs : goal.returns-clause-pairs
+returns-clause-pairs c = definition_pairs

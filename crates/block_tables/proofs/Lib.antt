@@ -1,0 +1,4 @@
+pub mod Maps
+pub mod NotedForms
+pub mod Sampled
+pub mod Seen

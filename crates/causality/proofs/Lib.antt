@@ -1,0 +1,15 @@
+pub mod Conditions
+pub mod Forms
+pub mod Graphed
+pub mod Initials
+pub mod ItemRows
+pub mod Judging
+pub mod Known
+pub mod LetsJudged
+pub mod Lists
+pub mod Places
+pub mod Pushed
+pub mod Split
+pub mod Tabled
+pub mod Waiting
+pub mod Ways

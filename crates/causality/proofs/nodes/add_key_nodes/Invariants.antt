@@ -1,0 +1,6 @@
+use Rattle.std.proofs.Common.{◌≡◌, ◌++◌, drop}
+use Rattle.causality.specs.Rows as rows
+use Rattle.causality.proofs.nodes.add_key_nodes.Given as goal
+
+abbrev pub invariant-loop-k : goal.invariant-loop-k
+invariant-loop-k l = l.out ++ rows.key_nodes l.d (drop l.k-index l.all) ≡ l.initial.out ++ rows.key_nodes l.d l.all

@@ -1,0 +1,11 @@
+pub mod Blocks
+pub mod Cycles
+pub mod Decided
+pub mod Items
+pub mod Judged
+pub mod Made
+pub mod Nodes
+pub mod Ranks
+pub mod Rows
+pub mod Table
+pub mod Walks
