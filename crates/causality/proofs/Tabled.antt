@@ -70,11 +70,11 @@ module _ (d : Definition) where
   table_next rs t r l it = record {
     only = λ x i e. elim (same_or_not x (at r.1)) [
       | inl s ↦
-        let v = the_some r.0 i (sym (set_at t (at r.1) (Some r.0) l) ∙ subst (λ z. item_at (slice_set t (at r.1) (Some r.0)) z ≡ Some i) s e) in
-        (r.1, subst (λ z. In (rowed z r.1) (rs ++ r ∷ [])) v (in_right r rs (r ∷ []) (first [])), sym s)
+          let v = the_some r.0 i (sym (set_at t (at r.1) (Some r.0) l) ∙ subst (λ z. item_at (slice_set t (at r.1) (Some r.0)) z ≡ Some i) s e) in
+          (r.1, subst (λ z. In (rowed z r.1) (rs ++ r ∷ [])) v (in_right r rs (r ∷ []) (first [])), sym s)
       | inr n ↦
-        let o = it.only x i (sym (set_past t (at r.1) x (Some r.0) n) ∙ e) in
-        (o.0, in_left (rowed i o.0) rs (r ∷ []) o.1, o.2)
+          let o = it.only x i (sym (set_past t (at r.1) x (Some r.0) n) ∙ e) in
+          (o.0, in_left (rowed i o.0) rs (r ∷ []) o.1, o.2)
     ];
     all = λ i k h. elim (same_or_not (at k) (at r.1)) [
       | inl s ↦ (r.0, ap (item_at (slice_set t (at r.1) (Some r.0))) s ∙ set_at t (at r.1) (Some r.0) l)
