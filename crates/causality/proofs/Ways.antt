@@ -1,11 +1,11 @@
 -- The graph of the nodes and the reads of rows: a read has a way in the graph, and a cycle of nodes gives one of rows.
-use Rattle.std.specs.Prelude.{◌≡◌, refl, ℕ, zero, suc, ◌<◌, ◌⊎◌, Bool, true, false, List, [], ◌∷◌, ◌++◌, map, length, slice_index_or}
+use Rattle.std.specs.Prelude.{◌≡◌, refl, ℕ, zero, suc, Bool, true, false, List, [], ◌∷◌, ◌++◌, map, slice_index_or}
 use Rattle.std.proofs.Common.{ap, sym, subst, ◌∙◌, append_assoc, inl, inr}
 use Rattle.ls_places.specs.declared.definition.Definition.{Definition}
 use Rattle.ls_places.specs.declared.definition.Key.{Key}
-use Rattle.digraph.specs.Graph.{In, first, later, reads as reads_of}
-use Rattle.digraph.specs.Numbering.{Covers, Cycle, Links, Path, Rising, more, one}
-use Rattle.digraph.proofs.Marks.{none_in, in_left, in_right, in_either, in_cons}
+use Rattle.digraph.specs.Graph.{In, reads as reads_of}
+use Rattle.digraph.specs.Numbering.{Covers, Cycle, Links, Rising, more, one}
+use Rattle.digraph.proofs.Marks.{none_in, in_left, in_right, in_either}
 use Rattle.digraph.proofs.Numbering.{links_join, small_numbers}
 use Rattle.causality_rules.specs.Reads.{reads, whole_rows}
 use Rattle.causality.specs.Cycles.{cycle_rows, row_of}
@@ -13,7 +13,7 @@ use Rattle.causality.specs.Nodes.{all_nodes, counts, key_node, node_at, node_in,
 use Rattle.causality.specs.Rows.{key_nodes, keys, node_row, rows, whole_nodes, wholes}
 use Rattle.causality.specs.declared.nodes.Node.{Node}
 use Rattle.causality.specs.declared.nodes.Node.TheVariants as node
-use Rattle.causality.proofs.Known.{Known, KnownWhole, known, known_whole}
+use Rattle.causality.proofs.Known.{known, known_whole}
 use Rattle.causality.proofs.Lists.{in_map, of_map}
 use Rattle.causality.proofs.Split.{key_read, read_then, whole_read}
 
