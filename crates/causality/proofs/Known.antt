@@ -1,6 +1,6 @@
 -- The number of each node: what stands there.
-use Rattle.std.specs.Prelude.{◌≡◌, refl, ℕ, zero, suc, ◌+◌, ◌-◌, ◌<◌, ◌≤◌, ◌⊎◌, nat_lt, Bool, true, false, List, [], ◌∷◌, ◌++◌, map, length, Option, Some, None, if◌then◌else◌}
-use Rattle.std.proofs.Common.{ap, sym, subst, ◌∙◌, arith, inl, inr}
+use Rattle.std.specs.Prelude.{◌≡◌, refl, ℕ, zero, suc, ◌+◌, ◌-◌, ◌<◌, ◌≤◌, ◌⊎◌, nat_lt, Bool, true, false, List, [], ◌∷◌, ◌++◌, map, length, None, if◌then◌else◌}
+use Rattle.std.proofs.Common.{ap, sym, ◌∙◌, arith, inl, inr}
 use Rattle.ls_value.specs.declared.leaf.Leaf.TheVariants as leaf
 use Rattle.ls_ast.specs.declared.tree.Expr.{fold_out-Expr}
 use Rattle.ls_ast.specs.declared.tree.Form.{Form, fold-Form, fold-roll-Form}
@@ -186,8 +186,11 @@ module _ (d : Definition) where
       let same : first + (m - first) ≡ m = omega (arith, l) in
       inl (name_there (counts d) (m - first) (is_less (m - first) (length d.places.names) f) ∙ ap (λ z. node.Row (key.Name z)) same)
   name_known m false false e f =
-      inr (refl, ap (λ z. if z then [] else reads.block_rows d m (nth d.places.names (m - first))) e
-      ∙ ap (reads.block_rows d m) (nth_none d.places.names (m - first) (not_less (m - first) (length d.places.names) f)))
+      inr (
+        refl,
+        ap (λ z. if z then [] else reads.block_rows d m (nth d.places.names (m - first))) e
+            ∙ ap (reads.block_rows d m) (nth_none d.places.names (m - first) (not_less (m - first) (length d.places.names) f)),
+      )
 
   reset_known : (r : ℕ) (t : Bool) → nat_lt r (length d.places.resets) ≡ t
       → Placed (key.Reset r) (if t then 1 + length d.places.vars + length d.places.vars + length d.places.names + r else 0)

@@ -1,5 +1,5 @@
 -- The items of a file, one after the other.
-use Rattle.std.specs.Prelude.{◌≡◌, ◌≢◌, refl, ℕ, ◌+◌, ◌<◌, Bool, List, [], ◌∷◌, ◌++◌, length, map, Option, Some, None}
+use Rattle.std.specs.Prelude.{◌≡◌, ◌≢◌, refl, ℕ, ◌+◌, ◌<◌, Bool, List, [], ◌∷◌, ◌++◌, length, Option, Some, None}
 use Rattle.std.proofs.Common.{ap, sym, subst, ◌∙◌, arith, drop, take, get_or}
 use Rattle.std.proofs.lemmas.Grind.{common_steps}
 use Rattle.ls_ast.specs.declared.tree.BodyOf.{BodyOf}
@@ -14,7 +14,7 @@ use Rattle.ls_places.specs.Places.{option_list}
 use Rattle.ls_sig.specs.declared.binder.Note.{Note}
 use Rattle.ls_sig.specs.declared.sigs.Item.{Item}
 use Rattle.causality_rules.specs.Files.{AllCausal, AllRanked, Let, Looped, lets}
-use Rattle.causality_rules.specs.Items.{Ranked, WaitsForItself, key_of}
+use Rattle.causality_rules.specs.Items.{Ranked, WaitsForItself}
 use Rattle.causality_rules.proofs.Files.{ranked_is_causal}
 use Rattle.causality.specs.Decided.{Decided}
 use Rattle.causality.specs.Judged.{AtCycle, ItemLoops, ItemRanked, Numbers}

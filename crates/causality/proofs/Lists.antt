@@ -1,6 +1,6 @@
 -- Items of lists.
-use Rattle.std.specs.Prelude.{◌≡◌, refl, ℕ, zero, suc, ◌+◌, ◌<◌, ◌⊎◌, List, [], ◌∷◌, ◌++◌, map}
-use Rattle.std.proofs.Common.{ap, sym, subst, ◌∙◌, arith, inl, inr}
+use Rattle.std.specs.Prelude.{◌≡◌, ℕ, zero, suc, ◌+◌, ◌<◌, List, [], ◌∷◌, map}
+use Rattle.std.proofs.Common.{subst, arith, inl, inr}
 use Rattle.ls_places.specs.Patterns.{joined}
 use Rattle.ls_places.specs.Search.{count_up}
 use Rattle.digraph.specs.Graph.{In, first, later}

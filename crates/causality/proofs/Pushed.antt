@@ -1,5 +1,5 @@
 -- One step of what is pushed in a loop.
-use Rattle.std.specs.Prelude.{◌≡◌, refl, ℕ, zero, suc, ◌+◌, ◌-◌, ◌<◌, Bool, true, false, List, [], ◌∷◌, ◌++◌, map, length, Option, Some, None, Result, Ok, Err, IfOk}
+use Rattle.std.specs.Prelude.{◌≡◌, refl, ℕ, zero, suc, ◌+◌, ◌-◌, ◌<◌, false, List, [], ◌∷◌, ◌++◌, map, length, Some, None, Result, Ok, Err, IfOk}
 use Rattle.std.proofs.Common.{ap, sym, subst, ◌∙◌, arith, append_assoc, drop, get_or}
 use Rattle.std.proofs.Math.ListN.{replicate}
 use Rattle.ls_places.specs.Patterns.{joined}
@@ -7,7 +7,6 @@ use Rattle.ls_places.specs.Search.{count_up, nth}
 use Rattle.place_tables.proofs.Lists.{counted, one_on}
 use Rattle.causality.specs.Cycles.{blank}
 use Rattle.causality.specs.Made.{node_of}
-use Rattle.causality.specs.Nodes as spec
 use Rattle.causality.specs.Nodes.{Counts, all_nodes, node_in}
 use Rattle.causality.specs.declared.nodes.Kind.TheVariants as kind
 use Rattle.causality.specs.declared.nodes.Node.{Node}

@@ -1,6 +1,6 @@
 -- What a row reads is read by its node at once or through a whole expression, and the other way round.
-use Rattle.std.specs.Prelude.{◌≡◌, refl, ℕ, ◌+◌, ◌-◌, ◌⊎◌, nat_lt, Bool, true, false, List, [], ◌∷◌, ◌++◌, map, length, Option, Some, None, if◌then◌else◌}
-use Rattle.std.proofs.Common.{sym, subst, inl, inr}
+use Rattle.std.specs.Prelude.{ℕ, ◌+◌, ◌-◌, ◌⊎◌, nat_lt, Bool, true, false, List, [], ◌∷◌, ◌++◌, map, length, Option, Some, None, if◌then◌else◌}
+use Rattle.std.proofs.Common.{subst, inl, inr}
 use Rattle.ls_places.specs.Patterns.{joined}
 use Rattle.ls_places.specs.Places.{Place}
 use Rattle.ls_places.specs.Search.{nth, sites_of, start_of}
@@ -15,7 +15,7 @@ use Rattle.ls_places.specs.declared.places.Site.{Site}
 use Rattle.ls_places.specs.declared.places.Start.{Start}
 use Rattle.ls_places.specs.declared.places.Transition.{Transition}
 use Rattle.ls_places.specs.declared.places.Variable.{Variable}
-use Rattle.digraph.specs.Graph.{In, Same, first, later}
+use Rattle.digraph.specs.Graph.{In, Same, first}
 use Rattle.digraph.proofs.Marks.{none_in, in_left, in_right, in_either, in_cons}
 use Rattle.causality_rules.specs.Reads as reads
 use Rattle.causality_rules.specs.Reads.{missing_rows, mode_rows, place_rows, present_clock, reset_rows, signal_rows, whole_rows}

@@ -1,5 +1,5 @@
 -- The items of rows, by a table of all nodes, and the numbers of nodes.
-use Rattle.std.specs.Prelude.{◌≡◌, refl, ℕ, zero, suc, ◌+◌, ◌-◌, ◌<◌, ◌≤◌, ◌⊎◌, Bool, true, false, List, [], ◌∷◌, ◌++◌, map, length, Option, Some, None, slice_set, if◌then◌else◌}
+use Rattle.std.specs.Prelude.{◌≡◌, refl, ℕ, zero, suc, ◌+◌, ◌<◌, ◌≤◌, ◌⊎◌, Bool, true, false, List, [], ◌∷◌, ◌++◌, map, length, Option, Some, None, slice_set, if◌then◌else◌}
 use Rattle.std.proofs.Common.{ap, sym, subst, ◌∙◌, arith, inl, inr, drop, take, get_or, get_or-set_other, get_or-set_same}
 use Rattle.std.proofs.Math.ListN.{length-set}
 use Rattle.std.proofs.lemmas.List.{length-map, map-append}
@@ -9,15 +9,15 @@ use Rattle.ls_places.specs.declared.definition.Definition.{Definition}
 use Rattle.ls_places.specs.declared.definition.Key.{Key}
 use Rattle.ls_sig.specs.declared.sigs.Item.{Item}
 use Rattle.ls_sig.specs.declared.sigs.Item.TheVariants as item
-use Rattle.digraph.specs.Graph.{In, first, later, reads as reads_of}
-use Rattle.digraph.specs.Numbering.{Cycle, Links, OrderOf, Rising, place, same_number}
+use Rattle.digraph.specs.Graph.{In, first, later}
+use Rattle.digraph.specs.Numbering.{Cycle, Links, OrderOf, place, same_number}
 use Rattle.digraph.proofs.Marks.{none_in, in_cons, in_last, in_left, in_right}
 use Rattle.digraph.proofs.Numbering.{order_numbers}
 use Rattle.place_tables.proofs.Lists.{one_on}
 use Rattle.causality_rules.specs.Items.{Cyclic, Ranked, WaitsForItself, is_condition, items, key_of}
 use Rattle.causality_rules.specs.Laws.{ModesPaired, ResetsNested}
 use Rattle.causality_rules.specs.Reads.{reads}
-use Rattle.causality.specs.Cycles.{cycle_rows, first_marked, inside, marks_of, option_var, others}
+use Rattle.causality.specs.Cycles.{first_marked, marks_of, option_var, others}
 use Rattle.causality.specs.Items.{Rowed, item_rows, with_row}
 use Rattle.causality.specs.Nodes.{all_nodes, counts, key_node, node_at, total}
 use Rattle.causality.specs.Ranks.{ArePlaces, ranked}
@@ -27,7 +27,7 @@ use Rattle.causality.specs.declared.nodes.Node.{Node}
 use Rattle.causality.specs.declared.nodes.Node.TheVariants as node
 use Rattle.causality.proofs.Conditions.{some_inside, waits_inside}
 use Rattle.causality.proofs.ItemRows.{has_item}
-use Rattle.causality.proofs.Known.{Known, key_below, known, nodes_long}
+use Rattle.causality.proofs.Known.{key_below, known, nodes_long}
 use Rattle.causality.proofs.Lists.{in_count, in_map, of_map}
 use Rattle.causality.proofs.Waiting.{others_items, others_wait, turned}
 use Rattle.causality.proofs.Ways.{rows_rise}
@@ -70,11 +70,11 @@ module _ (d : Definition) where
   table_next rs t r l it = record {
     only = λ x i e. elim (same_or_not x (at r.1)) [
       | inl s ↦
-        let v = the_some r.0 i (sym (set_at t (at r.1) (Some r.0) l) ∙ subst (λ z. item_at (slice_set t (at r.1) (Some r.0)) z ≡ Some i) s e) in
-        (r.1, subst (λ z. In (rowed z r.1) (rs ++ r ∷ [])) v (in_right r rs (r ∷ []) (first [])), sym s)
+          let v = the_some r.0 i (sym (set_at t (at r.1) (Some r.0) l) ∙ subst (λ z. item_at (slice_set t (at r.1) (Some r.0)) z ≡ Some i) s e) in
+          (r.1, subst (λ z. In (rowed z r.1) (rs ++ r ∷ [])) v (in_right r rs (r ∷ []) (first [])), sym s)
       | inr n ↦
-        let o = it.only x i (sym (set_past t (at r.1) x (Some r.0) n) ∙ e) in
-        (o.0, in_left (rowed i o.0) rs (r ∷ []) o.1, o.2)
+          let o = it.only x i (sym (set_past t (at r.1) x (Some r.0) n) ∙ e) in
+          (o.0, in_left (rowed i o.0) rs (r ∷ []) o.1, o.2)
     ];
     all = λ i k h. elim (same_or_not (at k) (at r.1)) [
       | inl s ↦ (r.0, ap (item_at (slice_set t (at r.1) (Some r.0))) s ∙ set_at t (at r.1) (Some r.0) l)

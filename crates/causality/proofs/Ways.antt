@@ -1,11 +1,11 @@
 -- The graph of the nodes and the reads of rows: a read has a way in the graph, and a cycle of nodes gives one of rows.
-use Rattle.std.specs.Prelude.{◌≡◌, refl, ℕ, zero, suc, ◌<◌, ◌⊎◌, Bool, true, false, List, [], ◌∷◌, ◌++◌, map, length, slice_index_or}
+use Rattle.std.specs.Prelude.{◌≡◌, refl, ℕ, zero, suc, Bool, true, false, List, [], ◌∷◌, ◌++◌, map, slice_index_or}
 use Rattle.std.proofs.Common.{ap, sym, subst, ◌∙◌, append_assoc, inl, inr}
 use Rattle.ls_places.specs.declared.definition.Definition.{Definition}
 use Rattle.ls_places.specs.declared.definition.Key.{Key}
-use Rattle.digraph.specs.Graph.{In, first, later, reads as reads_of}
-use Rattle.digraph.specs.Numbering.{Covers, Cycle, Links, Path, Rising, more, one}
-use Rattle.digraph.proofs.Marks.{none_in, in_left, in_right, in_either, in_cons}
+use Rattle.digraph.specs.Graph.{In, reads as reads_of}
+use Rattle.digraph.specs.Numbering.{Covers, Cycle, Links, Rising, more, one}
+use Rattle.digraph.proofs.Marks.{none_in, in_left, in_right, in_either}
 use Rattle.digraph.proofs.Numbering.{links_join, small_numbers}
 use Rattle.causality_rules.specs.Reads.{reads, whole_rows}
 use Rattle.causality.specs.Cycles.{cycle_rows, row_of}
@@ -13,7 +13,7 @@ use Rattle.causality.specs.Nodes.{all_nodes, counts, key_node, node_at, node_in,
 use Rattle.causality.specs.Rows.{key_nodes, keys, node_row, rows, whole_nodes, wholes}
 use Rattle.causality.specs.declared.nodes.Node.{Node}
 use Rattle.causality.specs.declared.nodes.Node.TheVariants as node
-use Rattle.causality.proofs.Known.{Known, KnownWhole, known, known_whole}
+use Rattle.causality.proofs.Known.{known, known_whole}
 use Rattle.causality.proofs.Lists.{in_map, of_map}
 use Rattle.causality.proofs.Split.{key_read, read_then, whole_read}
 
@@ -48,16 +48,16 @@ module _ (d : Definition) where
   covers x y h = elim (known d x) [
     | inr e ↦ absurd (none_in (subst (In y) e.1 h))
     | inl e ↦
-      let n = key_node (counts d) x in
-      let m = key_node (counts d) y in
-      let ks = key_nodes d (keys d x) in
-      let ws = whole_nodes d (wholes d x) in
-      elim (read_then d x y h) [
-        | inl i ↦ one n m (graph_is n (node.Row x) m e (in_left m ks ws (in_map (key_node (counts d)) y (keys d x) i)))
-        | inr r ↦
-          let w = whole_node (counts d) r.0 in
-          more n w m (graph_is n (node.Row x) w e (in_right w ks ws (in_map (whole_node (counts d)) r.0 (wholes d x) r.1))) (one w m (whole_way r.0 y r.2))
-      ]
+        let n = key_node (counts d) x in
+        let m = key_node (counts d) y in
+        let ks = key_nodes d (keys d x) in
+        let ws = whole_nodes d (wholes d x) in
+        elim (read_then d x y h) [
+          | inl i ↦ one n m (graph_is n (node.Row x) m e (in_left m ks ws (in_map (key_node (counts d)) y (keys d x) i)))
+          | inr r ↦
+              let w = whole_node (counts d) r.0 in
+              more n w m (graph_is n (node.Row x) w e (in_right w ks ws (in_map (whole_node (counts d)) r.0 (wholes d x) r.1))) (one w m (whole_way r.0 y r.2))
+        ]
   ]
 
   -- a numbering of the nodes is one of the rows
@@ -97,9 +97,9 @@ module _ (d : Definition) where
   step_from node.Nothing m h = absurd (none_in h)
   step_from (node.Row x) m h = elim (in_either m (key_nodes d (keys d x)) (whole_nodes d (wholes d x)) h) [
     | inl i ↦ let r = of_map (key_node (counts d)) m (keys d x) i in
-      subst (λ z. Step (node.Row x) (at z)) (sym r.2) (key_step (node.Row x) r.0 (key_read d x r.0 r.1))
+        subst (λ z. Step (node.Row x) (at z)) (sym r.2) (key_step (node.Row x) r.0 (key_read d x r.0 r.1))
     | inr i ↦ let r = of_map (whole_node (counts d)) m (wholes d x) i in
-      subst (λ z. Step (node.Row x) (at z)) (sym r.2) (whole_step x r.0 r.1)
+        subst (λ z. Step (node.Row x) (at z)) (sym r.2) (whole_step x r.0 r.1)
   ]
   step_from (node.Whole k) m h = let r = of_map (key_node (counts d)) m (whole_rows d k) h in
       subst (λ z. Step (node.Whole k) (at z)) (sym r.2) (key_step (node.Whole k) r.0 r.1)

@@ -1,5 +1,5 @@
 -- The items of a body with their rows.
-use Rattle.std.specs.Prelude.{◌≡◌, ℕ, suc, ◌+◌, List, [], ◌∷◌, ◌++◌, map, length, Option, Some, None, if◌then◌else◌}
+use Rattle.std.specs.Prelude.{ℕ, suc, ◌+◌, List, [], ◌∷◌, ◌++◌, map, length, Option, Some, None, if◌then◌else◌}
 use Rattle.ls_places.specs.Patterns.{joined}
 use Rattle.ls_places.specs.Search.{count_up, nth, start_of}
 use Rattle.ls_places.specs.declared.definition.Definition.{Definition}

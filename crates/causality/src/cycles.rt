@@ -76,11 +76,7 @@ fn others(alloc: Global, rows: &[Key]) -> Result<List<Key>, NoMemory>
 // ---- the items of rows
 
 // The item of each node that is the row of one.
-fn table(
-    alloc: Global,
-    d: &Definition,
-    rows: &[(Item, Key)],
-) -> Result<Vec<Option<Item>>, NoMemory>
+fn table(alloc: Global, d: &Definition, rows: &[(Item, Key)]) -> Result<Vec<Option<Item>>, NoMemory>
     requires { fits d.now }
     ensures table { IfOk result (λ t. table_spec.IsTable d.now rows.now t.items) }
     ensures all { IfOk result (λ t. length t.items ≡ total (counts d.now)) }

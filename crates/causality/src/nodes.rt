@@ -193,7 +193,12 @@ pub fn all_nodes(alloc: Global, d: &Definition) -> Result<List<Node>, NoMemory>
     let vars = d.places.vars.len() as u32;
     add_made(Kind::Var, 0, vars, &mut out)?;
     add_made(Kind::Start, 0, vars, &mut out)?;
-    add_made(Kind::Name, d.params.len() as u32, d.places.names.len() as u32, &mut out)?;
+    add_made(
+        Kind::Name,
+        d.params.len() as u32,
+        d.places.names.len() as u32,
+        &mut out,
+    )?;
     add_made(Kind::Reset, 0, d.places.resets.len() as u32, &mut out)?;
     add_made(Kind::Whole, 0, d.places.exprs.len() as u32, &mut out)?;
     Ok(out)

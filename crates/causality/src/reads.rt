@@ -88,7 +88,12 @@ fn add_clock_name(d: &Definition, m: u32, out: &mut List<Key>) -> Result<(), NoM
     if (m as usize) < first {
         return Ok(());
     }
-    add_named(d, m, nth(d.places.names.as_slice(), m as usize - first), out)
+    add_named(
+        d,
+        m,
+        nth(d.places.names.as_slice(), m as usize - first),
+        out,
+    )
 }
 
 #[cycle(clock)]

@@ -33,12 +33,7 @@ fn add_right(
     }
 }
 
-fn add_site(
-    alloc: Global,
-    d: &BlockTables,
-    s: &Site,
-    out: &mut List<Key>,
-) -> Result<(), NoMemory>
+fn add_site(alloc: Global, d: &BlockTables, s: &Site, out: &mut List<Key>) -> Result<(), NoMemory>
     ensures { OnOk result (out.new ≡ out.old ++ spec.site_keys d.now s.now) }
 {
     add_place(s.place.as_slice(), out)?;
@@ -123,12 +118,7 @@ fn add_initial_at(d: &BlockTables, x: u32, out: &mut List<Key>) -> Result<(), No
     }
 }
 
-fn add_name(
-    alloc: Global,
-    d: &BlockTables,
-    m: u32,
-    out: &mut List<Key>,
-) -> Result<(), NoMemory>
+fn add_name(alloc: Global, d: &BlockTables, m: u32, out: &mut List<Key>) -> Result<(), NoMemory>
     requires { fits d.now }
     ensures { OnOk result (out.new ≡ out.old ++ spec.name_keys d.now m) }
 {

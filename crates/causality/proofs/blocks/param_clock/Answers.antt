@@ -1,4 +1,4 @@
-use Rattle.std.proofs.Common.{◌∙◌, ap, sym}
+use Rattle.std.proofs.Common.{◌∙◌, ap}
 use Rattle.ls_places.specs.Search.{nth}
 use Rattle.ls_places.specs.declared.definition.Definition.{Definition}
 use Rattle.place_tables.specs.Tables.{param_in}

@@ -1,4 +1,4 @@
-use Rattle.std.specs.Prelude.{◌≡◌, ℕ, List, [], ◌∷◌, length, zero, suc, refl}
+use Rattle.std.specs.Prelude.{◌≡◌, ℕ, List, [], ◌∷◌, length, refl}
 use Rattle.std.proofs.Common.{◌∙◌, ap, sym}
 use Rattle.ls_places.specs.declared.definition.Key.{Key}
 use Rattle.causality_rules.specs.Items.{WaitsForItself}

@@ -24,7 +24,7 @@ loop-k-preserved c =
     let at = ap (item_at t) (sym c.key_node.ensures) in
     elim c.match-table-key_node.branch [
       | in-Some+in_ok-push w ↦
-        found_next d t all i k c.loop-k.done c.match-table-key_node.done w.in-Some.item c.requires.table c.requires.items c.loop-k-test.true is (at ∙ w.in-Some.is)
-            (w.done-is ∙ w.in_ok-push.ensures.ok) c.loop-k.invariant
+          found_next d t all i k c.loop-k.done c.match-table-key_node.done w.in-Some.item c.requires.table c.requires.items c.loop-k-test.true is (at ∙ w.in-Some.is)
+          (w.done-is ∙ w.in_ok-push.ensures.ok) c.loop-k.invariant
       | in_default w ↦ absurd (found_none d t all i k c.requires.table c.requires.items c.loop-k-test.true is (at ∙ not_some (item_at t c.key_node.result) w.in_default.not-Some))
     ]

@@ -23,9 +23,9 @@ loop-k-preserved c =
     let there = ap is_some (sym start) ∙ copied_some c.start_of.result ∙ sym c.is_some.ensures in
     elim c.if-is_some.branch [
       | then-is_some+in_ok-push v ↦
-        joined_next (spec.initial_row_at d) (length d.places.vars) k out c.if-is_some.out _ here
-            (v.out-is ∙ v.in_ok-push.ensures.ok ∙ ap (λ z. out ++ z) (sym (row ∙ initial_some k s (there ∙ v.if-is_some.true)))) c.loop-k.invariant
+          joined_next (spec.initial_row_at d) (length d.places.vars) k out c.if-is_some.out _ here
+          (v.out-is ∙ v.in_ok-push.ensures.ok ∙ ap (λ z. out ++ z) (sym (row ∙ initial_some k s (there ∙ v.if-is_some.true)))) c.loop-k.invariant
       | else-is_some v ↦
-        joined_next (spec.initial_row_at d) (length d.places.vars) k out c.if-is_some.out _ here
-            (v.out-is ∙ nothing_after out ∙ ap (λ z. out ++ z) (sym (row ∙ initial_none k s (there ∙ v.if-is_some.false)))) c.loop-k.invariant
+          joined_next (spec.initial_row_at d) (length d.places.vars) k out c.if-is_some.out _ here
+          (v.out-is ∙ nothing_after out ∙ ap (λ z. out ++ z) (sym (row ∙ initial_none k s (there ∙ v.if-is_some.false)))) c.loop-k.invariant
     ]

@@ -22,18 +22,18 @@ loop-k-preserved c =
     let y = get_or order i 0 in
     elim c.if-x-many.branch [
       | then-x-many w ↦
-        let put = ap (λ (v : Vec ℕ Global). v.items) w.at-is in
-        record {
-          all = ap length put ∙ length-set c.loop-k.at.items y i ∙ c.loop-k.invariant.all;
-          so_far = place_next c.loop-k.at.items c.if-x-many.at.items order k i y c.loop-k-test.true refl refl (subst (λ z. y < z) (sym c.loop-k.invariant.all) w.if-x-many.true) put c.loop-k.invariant.so_far;
-        }
+          let put = ap (λ (v : Vec ℕ Global). v.items) w.at-is in
+          record {
+            all = ap length put ∙ length-set c.loop-k.at.items y i ∙ c.loop-k.invariant.all;
+            so_far = place_next c.loop-k.at.items c.if-x-many.at.items order k i y c.loop-k-test.true refl refl (subst (λ z. y < z) (sym c.loop-k.invariant.all) w.if-x-many.true) put c.loop-k.invariant.so_far;
+          }
       | else-x-many w ↦
-        let kept = ap (λ (v : Vec ℕ Global). v.items) w.at-is in
-        let outside = w.if-x-many.false in
-        let all = c.loop-k.invariant.all in
-        let past : length c.loop-k.at.items ≤ y = omega (arith, outside, all) in
-        record {
-          all = ap length kept ∙ all;
-          so_far = subst (λ z. From z order (length order - (k + 1))) (sym kept) (place_skip c.loop-k.at.items order k i y c.loop-k-test.true refl refl past c.loop-k.invariant.so_far);
-        }
+          let kept = ap (λ (v : Vec ℕ Global). v.items) w.at-is in
+          let outside = w.if-x-many.false in
+          let all = c.loop-k.invariant.all in
+          let past : length c.loop-k.at.items ≤ y = omega (arith, outside, all) in
+          record {
+            all = ap length kept ∙ all;
+            so_far = subst (λ z. From z order (length order - (k + 1))) (sym kept) (place_skip c.loop-k.at.items order k i y c.loop-k-test.true refl refl past c.loop-k.invariant.so_far);
+          }
     ]
